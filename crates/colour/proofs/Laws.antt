@@ -1,0 +1,42 @@
+-- Laws of the definitions of colour, for this crate and for callers. Assumes nothing.
+use mathlib.Core.Path.{_≡_, refl, sym, ap, _∙_}
+use mathlib.Core.Logic.{_⊎_, inl, inr}
+use mathlib.Core.Bool.{Bool, true, false, _||_}
+use Prim.Native.Nat.{ℕ, _+_, _-_, _*_, _≤_}
+use native.Mathlib.Omega.{arith}
+use lib.Dec.{eqb}
+use borrow.Author.Tests.{eq-eqb, ne-eqb}
+use Rattle.colour.specs.declared.RGBA.{RGBA}
+use Rattle.colour.specs.declared.RenderColors.{RenderColors}
+use Rattle.colour.specs.Channel.{nearest, blendByte, multiplyByte}
+use Rattle.colour.specs.Colour.{rgba, blendedAt, multiplied, colorForNumber}
+
+-- ---- blending at the alphas that need no arithmetic, and at the others
+
+pub blend-byte-full : (s c : ℕ) → blendByte s c 255 ≡ c
+unfolding blendByte
+blend-byte-full s c = omega arith
+
+pub blended-none : (c s : RGBA) {a : ℕ} → a ≡ 0 → s ≡ blendedAt a c s
+unfolding blendedAt
+blended-none c s e = rw (eq-eqb _ 0 e)
+
+pub blended-full : (c s : RGBA) {a : ℕ} → a ≡ 255 → rgba (c .r) (c .g) (c .b) 255 ≡ blendedAt a c s
+unfolding blendedAt
+blended-full c s e = rw (e, blend-byte-full, blend-byte-full, blend-byte-full)
+
+pub blended-some : (c s : RGBA) {a r g b : ℕ} → (a ≡ 0 → ⊥) → (a ≡ 255 → ⊥)
+    → r ≡ blendByte (s .r) (c .r) a → g ≡ blendByte (s .g) (c .g) a → b ≡ blendByte (s .b) (c .b) a → rgba r g b (s .a) ≡ blendedAt a c s
+unfolding blendedAt
+blended-some c s {a} n f er eg eb = rw (ne-eqb a 0 n, ne-eqb a 255 f, er, eg, eb)
+
+-- ---- multiplying
+
+pub multiplied-none : (c s : RGBA) → c .a ≡ 0 → s ≡ multiplied c s
+unfolding multiplied
+multiplied-none c s e = rw (eq-eqb _ 0 e)
+
+pub multiplied-some : (c s : RGBA) {r g b : ℕ} → (c .a ≡ 0 → ⊥)
+    → r ≡ multiplyByte (s .r) (c .r) (c .a) → g ≡ multiplyByte (s .g) (c .g) (c .a) → b ≡ multiplyByte (s .b) (c .b) (c .a) → rgba r g b (s .a) ≡ multiplied c s
+unfolding multiplied
+multiplied-some c s n er eg eb = rw (ne-eqb (c .a) 0 n, er, eg, eb)

@@ -1,0 +1,7 @@
+mod Rounding
+mod Near
+mod Operations
+mod Product
+mod Accurate
+mod Doubled
+pub mod Laws

@@ -1,0 +1,50 @@
+-- `colour::channel::blend_channel` meets its contract. Assumes nothing.
+use native.Mathlib.Omega.{arith}
+use native.Mathlib.Nat.{mul-le-mul-right}
+use mathlib.Core.Path.{_≡_}
+use Prim.Native.Nat.{ℕ, _*_, _+_, _-_, _/_, _≤_}
+use Rattle.colour.specs.Channel.{nearest, blendByte}
+use borrow.Author.Needs.{needs}
+use Rattle.colour.proofs.channel.blend_channel.Statement.{statement}
+use Rattle.colour.proofs.channel.blend_channel.Tie as tie
+use Rattle.colour.proofs.channel.blend_channel.Reads as reads
+use Rattle.colour.proofs.channel.blend_channel.Lts as lts
+
+low : (c : tie.Start) → c .args .c * c .args .a ≤ 255 * c .args .a
+low c = mul-le-mul-right (c .args .a) (omega arith)
+
+high : (c : tie.Start) → c .args .s * (255 - c .args .a) ≤ 255 * (255 - c .args .a)
+high c = mul-le-mul-right (255 - c .args .a) (omega arith)
+
+-- the whole number nearest n / 255, by two divisions by 256
+by-256 : (n : ℕ) → n ≤ 65025 → (n + 128 + (n + 128) / 256) / 256 ≡ nearest n 255
+by-256 n h = omega arith
+
+mul-t : tie.Need-mul-t
+mul-t c = omega (arith, low c)
+
+sub-t : tie.Need-sub-t
+sub-t c = search needs
+
+mul-t-2 : tie.Need-mul-t-2
+mul-t-2 c = omega (arith, high c)
+
+add-t : tie.Need-add-t
+add-t c = omega (arith, low c, high c)
+
+add-t-2 : tie.Need-add-t-2
+add-t-2 c = omega (arith, low c, high c)
+
+add-result : tie.Need-add-result
+add-result c = omega (arith, low c, high c)
+
+cast-result : tie.Need-cast-result
+cast-result c = omega (arith, low c, high c)
+
+returns : tie.Need-returns
+unfolding blendByte
+returns c = by-256 (c .args .c * c .args .a + c .args .s * (255 - c .args .a)) (omega (arith, low c, high c))
+
+pub blend-channel-spec : {M : Type 1} → statement M
+blend-channel-spec =
+    tie.close (tie.spec mul-t sub-t mul-t-2 add-t add-t-2 add-result cast-result returns)
