@@ -11,6 +11,10 @@ use Rattle.colour.specs.declared.RenderColors.{RenderColors}
 use Rattle.colour.specs.Channel.{nearest, blendByte, multiplyByte}
 use Rattle.colour.specs.Colour.{rgba, blendedAt, multiplied, colorForNumber}
 
+-- two colours are equal by their parts
+pub rgba-eq : {c d : RGBA} → c .r ≡ d .r → c .g ≡ d .g → c .b ≡ d .b → c .a ≡ d .a → c ≡ d
+rgba-eq p q r s = λ i. record { r = p i; g = q i; b = r i; a = s i }
+
 -- ---- blending at the alphas that need no arithmetic, and at the others
 
 pub blend-byte-full : (s c : ℕ) → blendByte s c 255 ≡ c

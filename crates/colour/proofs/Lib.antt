@@ -5,3 +5,6 @@ mod Product
 mod Accurate
 mod Doubled
 pub mod Laws
+pub mod OneAnswer
+mod Unique
+mod Examples

@@ -7,8 +7,6 @@ use Rattle.colour.specs.Channel.{nearest, blendByte}
 use borrow.Author.Needs.{needs}
 use Rattle.colour.proofs.channel.blend_channel.Statement.{statement}
 use Rattle.colour.proofs.channel.blend_channel.Tie as tie
-use Rattle.colour.proofs.channel.blend_channel.Reads as reads
-use Rattle.colour.proofs.channel.blend_channel.Lts as lts
 
 low : (c : tie.Start) → c .args .c * c .args .a ≤ 255 * c .args .a
 low c = mul-le-mul-right (c .args .a) (omega arith)

@@ -10,9 +10,6 @@ use Rattle.colour.specs.Channel.{float, product, inByte, roundAway, mult
 use Rattle.colour.proofs.Accurate.{product-in-byte, multiplied}
 use Rattle.colour.proofs.channel.multiply_channel.Statement.{statement}
 use Rattle.colour.proofs.channel.multiply_channel.Tie as tie
-use Rattle.colour.proofs.channel.multiply_channel.Reads as reads
-use Rattle.colour.proofs.channel.multiply_channel.Lts as lts
-use Rattle.colour.proofs.channel.round_to_byte.Reads as round-to-byte-reads
 
 -- 255.0 is the byte 255 as a float
 is-full : float 255 ≡ ofBits binary32 0x437f_0000

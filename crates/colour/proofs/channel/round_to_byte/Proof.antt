@@ -9,9 +9,6 @@ use lib.Ieee.{Float, fin, binary32, fits, mul, ofBits}
 use Rattle.colour.proofs.Doubled.{Rounds, rounds}
 use Rattle.colour.proofs.channel.round_to_byte.Statement.{statement}
 use Rattle.colour.proofs.channel.round_to_byte.Tie as tie
-use Rattle.colour.proofs.channel.round_to_byte.Reads as reads
-use Rattle.colour.proofs.channel.round_to_byte.Lts as lts
-use Rattle.std.proofs.num.truncating_f32_to_u64.Reads as truncating-f32-to-u64-reads
 
 is-two : fin false 1 (pos 1) ≡ ofBits binary32 0x4000_0000
 unfolding ofBits

@@ -1,0 +1,1 @@
+//! Stands in for the image crate, which the canvas names and never calls.

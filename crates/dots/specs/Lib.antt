@@ -1,0 +1,2 @@
+-- What the contracts of dots say.
+pub mod Dots

@@ -1,0 +1,24 @@
+// Replays the fixed lists of the original's answers, and says of each how many lines agree with
+// this project and how many do not.
+mod colour_list;
+mod hex;
+
+use libc::STDOUT_FILENO;
+
+fn main() {
+    tell(b"colour", colour_list::replay(b"colour.txt"));
+}
+
+pub struct Tally {
+    pub agree: u64,
+    pub differ: u64,
+}
+
+fn tell(list: &[u8], t: Tally) {
+    io::write_all(STDOUT_FILENO, list);
+    io::write_all(STDOUT_FILENO, b" agree ");
+    io::print_decimal(STDOUT_FILENO, t.agree);
+    io::write_all(STDOUT_FILENO, b" differ ");
+    io::print_decimal(STDOUT_FILENO, t.differ);
+    io::write_all(STDOUT_FILENO, b"\n");
+}

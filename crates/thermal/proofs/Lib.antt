@@ -1,0 +1,2 @@
+mod RoundTrip
+mod Unique

@@ -1,0 +1,24 @@
+-- `thermal::packed::color_of` meets its contract. Assumes nothing.
+use Rattle.thermal.specs.Packed.{colorOf}
+use borrow.Author.Needs.{needs}
+use Rattle.thermal.proofs.packed.color_of.Statement.{statement}
+use Rattle.thermal.proofs.packed.color_of.Tie as tie
+
+cast-t3 : tie.Need-cast-t3
+cast-t3 c = search needs
+
+cast-t6 : tie.Need-cast-t6
+cast-t6 c = search needs
+
+cast-t9 : tie.Need-cast-t9
+cast-t9 c = search needs
+
+cast-t11 : tie.Need-cast-t11
+cast-t11 c = search needs
+
+returns : tie.Need-returns
+unfolding colorOf
+returns c = search needs
+
+pub color-of-spec : {M : Type 1} → statement M
+color-of-spec = tie.close (tie.spec cast-t3 cast-t6 cast-t9 cast-t11 returns)

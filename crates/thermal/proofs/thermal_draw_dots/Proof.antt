@@ -1,0 +1,39 @@
+use mathlib.Core.Path.{_≡_, refl, _∙_}
+use mathlib.Core.Bool.{Bool}
+use mathlib.Core.List.{List}
+use Prim.Native.Nat.{ℕ, _+_}
+use native.Mathlib.Nat.{zero-add}
+use Rattle.colour.specs.declared.RGBA.{RGBA}
+use Rattle.dots.specs.Dots.{change, within, drawn}
+use borrow.Author.Needs.{needs}
+use Rattle.thermal.proofs.thermal_draw_dots.Statement.{statement}
+use Rattle.thermal.proofs.thermal_draw_dots.Tie as tie
+use Rattle.thermal.proofs.thermal_draw_dots.Reads as reads
+use Rattle.thermal.proofs.thermal_draw_dots.Lts as lts
+use Rattle.dots.proofs.draw_run.Reads as draw-run-reads
+use Rattle.thermal.proofs.packed.color_of.Reads as color-of-reads
+
+-- a run of n dots from the first
+from-first : (m : Bool) (n : ℕ) (l : List ℕ) {c d : RGBA} {e : List ℕ} → c ≡ d → e ≡ change (within 0 (0 + n)) (λ _ s. drawn m c s) l → e ≡ change (within 0 n) (λ _ s. drawn m d s) l
+from-first m n l q h = h ∙ rw (zero-add, q)
+
+color-of-requires : tie.Need-color-of-requires
+color-of-requires c κs = search needs
+
+-- src/lib.rt:69:5
+draw-run-requires : tie.Need-draw-run-requires
+draw-run-requires c κs = search needs
+
+-- src/lib.rt:64:1
+same-length : tie.Need-same-length
+same-length c = search needs
+
+-- src/lib.rt:64:1
+returns : tie.Need-returns
+returns c =
+    let d = c .before .before in
+    from-first _ _ _ (d .before .color-of .ensures) (d .draw-run .ensures)
+
+pub thermal-draw-dots-spec : {M : Type 1} → statement M
+thermal-draw-dots-spec =
+    tie.close (tie.spec color-of-requires draw-run-requires same-length returns)
