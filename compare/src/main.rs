@@ -3,6 +3,7 @@
 mod bench;
 mod boundary;
 mod colour;
+mod decoders;
 mod report;
 
 use std::process::ExitCode;
@@ -12,6 +13,7 @@ fn main() -> ExitCode {
         Some("run") => {
             let mut report = report::Report::default();
             colour::compare(&mut report);
+            decoders::compare(&mut report);
             report.finish()
         }
         Some("bench") => {

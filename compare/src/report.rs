@@ -6,6 +6,9 @@ use std::time::{Duration, Instant};
 /// Differences of one operation that are printed; the rest are counted.
 const PRINTED: u64 = 5;
 
+/// The scope's numbers are below this.
+const NUMBERS: usize = 17;
+
 /// One operation's cases. A case is one call of this library.
 pub struct Operation {
     name: String,
@@ -46,12 +49,54 @@ impl Operation {
     }
 }
 
+/// The cases of an operation that answers one of the scope's numbers. Where the original has no
+/// answer the scope still has, so that a case outside its domain passes or fails too.
+pub struct Entry {
+    name: String,
+    cases: u64,
+    /// How often each number was due.
+    numbers: [u64; NUMBERS],
+    differences: u64,
+    outside: u64,
+}
+
+impl Entry {
+    pub fn new(name: impl Into<String>) -> Self {
+        Entry {
+            name: name.into(),
+            cases: 0,
+            numbers: [0; NUMBERS],
+            differences: 0,
+            outside: 0,
+        }
+    }
+
+    pub fn case(&mut self, due: u8, outside: bool, difference: Option<String>) {
+        self.cases += 1;
+        self.numbers[usize::from(due)] += 1;
+        self.outside += u64::from(outside);
+        if let Some(difference) = difference {
+            self.differences += 1;
+            if self.differences <= PRINTED {
+                println!("{} differs: {difference}", self.name);
+            }
+        }
+    }
+}
+
 #[derive(Default)]
-pub struct Report(Vec<Operation>);
+pub struct Report {
+    operations: Vec<Operation>,
+    entries: Vec<Entry>,
+}
 
 impl Report {
     pub fn add(&mut self, operation: Operation) {
-        self.0.push(operation);
+        self.operations.push(operation);
+    }
+
+    pub fn add_entry(&mut self, entry: Entry) {
+        self.entries.push(entry);
     }
 
     /// Prints the counts, and gives success exactly if nothing differs.
@@ -60,20 +105,49 @@ impl Report {
             "{:<44} {:>10} {:>12} {:>8}",
             "operation", "cases", "differences", "outside"
         );
-        for o in &self.0 {
+        for o in &self.operations {
             println!(
                 "{:<44} {:>10} {:>12} {:>8}",
                 o.name, o.cases, o.differences, o.outside
             );
         }
-        let total = |count: fn(&Operation) -> u64| self.0.iter().map(count).sum::<u64>();
-        let failed = total(|o| o.differences);
-        let passed = total(|o| o.cases - o.differences - o.outside);
+        self.print_entries();
+        let of_operations =
+            |count: fn(&Operation) -> u64| -> u64 { self.operations.iter().map(count).sum() };
+        let of_entries = |count: fn(&Entry) -> u64| -> u64 { self.entries.iter().map(count).sum() };
+        let failed = of_operations(|o| o.differences) + of_entries(|e| e.differences);
+        let passed = of_operations(|o| o.cases - o.differences - o.outside)
+            + of_entries(|e| e.cases - e.differences);
         println!("{passed} passed, {failed} failed");
         if failed == 0 {
             ExitCode::SUCCESS
         } else {
             ExitCode::FAILURE
+        }
+    }
+
+    /// A column for each number that was due anywhere.
+    fn print_entries(&self) {
+        let used: Vec<usize> = (0..NUMBERS)
+            .filter(|&number| self.entries.iter().any(|e| e.numbers[number] > 0))
+            .collect();
+        let numbers = |text: &dyn Fn(usize) -> String| -> String {
+            used.iter().map(|&n| format!(" {:>8}", text(n))).collect()
+        };
+        let head = numbers(&|number| match number {
+            0 => "done".into(),
+            _ => format!("no. {number}"),
+        });
+        println!(
+            "{:<44} {:>10} {:>12} {:>8}{head}",
+            "entry", "cases", "differences", "outside"
+        );
+        for e in &self.entries {
+            let counts = numbers(&|number| e.numbers[number].to_string());
+            println!(
+                "{:<44} {:>10} {:>12} {:>8}{counts}",
+                e.name, e.cases, e.differences, e.outside
+            );
         }
     }
 }

@@ -48,14 +48,16 @@ pub fn multiply_foreground(dot: u32, color: u32) -> Option<u32> {
 
 /// `colors` are the paper's and the three inks'.
 pub fn color_for_number(colors: [u32; 4], n: u8) -> Option<u32> {
-    answer(|| {
-        let [paper_color, color_1, color_2, color_3] = colors.map(rgba);
-        let colors = RenderColors {
-            paper_color,
-            color_1,
-            color_2,
-            color_3,
-        };
-        number(*colors.color_for_number(n))
-    })
+    answer(|| number(*render_colors(colors).color_for_number(n)))
+}
+
+/// `colors` are the paper's and the three inks'.
+pub fn render_colors(colors: [u32; 4]) -> RenderColors {
+    let [paper_color, color_1, color_2, color_3] = colors.map(rgba);
+    RenderColors {
+        paper_color,
+        color_1,
+        color_2,
+        color_3,
+    }
 }

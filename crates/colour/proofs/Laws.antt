@@ -2,7 +2,7 @@
 use mathlib.Core.Path.{_≡_, refl, sym, ap, _∙_}
 use mathlib.Core.Logic.{_⊎_, inl, inr}
 use mathlib.Core.Bool.{Bool, true, false, _||_}
-use Prim.Native.Nat.{ℕ, _+_, _-_, _*_, _≤_}
+use Prim.Native.Nat.{ℕ, _+_, _-_, _*_, _/_, _≤_}
 use native.Mathlib.Omega.{arith}
 use lib.Dec.{eqb}
 use borrow.Author.Tests.{eq-eqb, ne-eqb}
@@ -16,6 +16,10 @@ pub rgba-eq : {c d : RGBA} → c .r ≡ d .r → c .g ≡ d .g → c .b ≡ d .b
 rgba-eq p q r s = λ i. record { r = p i; g = q i; b = r i; a = s i }
 
 -- ---- blending at the alphas that need no arithmetic, and at the others
+
+-- the whole number nearest n / 255, by two divisions by 256
+pub by-256 : (n : ℕ) → n ≤ 65025 → (n + 128 + (n + 128) / 256) / 256 ≡ nearest n 255
+by-256 n h = omega arith
 
 pub blend-byte-full : (s c : ℕ) → blendByte s c 255 ≡ c
 unfolding blendByte

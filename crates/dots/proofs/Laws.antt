@@ -2,17 +2,19 @@
 use mathlib.Core.Path.{_≡_, refl, sym, ap, _∙_}
 use mathlib.Core.Logic.{_≢_, _⊎_, inl, inr, ⊎-elim}
 use mathlib.Core.List.{List}
-use mathlib.Core.Bool.{Bool, true, false, _&&_, _||_, or-true, or-false, and-false, true≢false}
+use mathlib.Core.Bool.{Bool, true, false, _||_, or-true, or-false, and-false, true≢false}
 use Prim.Native.Nat.{ℕ, zero, suc, _+_, _*_, _/_, _%_, _≤_, _<_}
-use native.Mathlib.Nat.{le-of-suc-le-suc, not-suc-le-zero}
+use native.Mathlib.Nat.{le-of-suc-le-suc, not-suc-le-zero, add-zero}
 use native.Mathlib.Omega.{arith}
 use lib.ListN.{length, getD, set, length-set, List·getD-eq-default}
 use lib.Seq.{getD-set-same, getD-set-other, ext-getD}
-use lib.Dec.{ltb, leb, eqb}
+use lib.Dec.{ltb, eqb}
 use borrow.Author.Tests.{lt-ltb, le-ltb, le-leb, lt-leb, eq-eqb, ne-eqb, ltb-true, ltb-false, eqb-true, eqb-false}
 use Rattle.colour.specs.Choice.{if_then_else_}
 use Rattle.colour.specs.declared.RGBA.{RGBA}
-use Rattle.dots.specs.Dots.{dotAt, setDot, tab, chan, paint, change, within}
+use Rattle.colour.specs.Colour.{blended, multiplied}
+use Rattle.colour.proofs.Laws.{rgba-eq, blended-none, blended-full, multiplied-none}
+use Rattle.dots.specs.Dots.{dotAt, setDot, tab, chan, paint, change, within, drawn}
 
 -- a number is below another, or not
 by-test : (a b : ℕ) (t : Bool) → ltb a b ≡ t → (a < b) ⊎ (b ≤ a)
@@ -29,24 +31,27 @@ unfolding tab
 length-tab zero f = refl
 length-tab (suc n) f = ap suc (length-tab n (λ k. f (suc k)))
 
-getD-tab : (n : ℕ) (f : ℕ → ℕ) (i d : ℕ) → i < n → getD (tab n f) i d ≡ f i
+pub getD-tab : (n : ℕ) (f : ℕ → ℕ) (i d : ℕ) → i < n → getD (tab n f) i d ≡ f i
 unfolding tab
 getD-tab zero f i d h = absurd (not-suc-le-zero h)
 getD-tab (suc n) f zero d h = refl
 getD-tab (suc n) f (suc i) d h = getD-tab n (λ k. f (suc k)) i d (le-of-suc-le-suc h)
 
--- two dots are equal by their parts
-pub rgba-eq : {c d : RGBA} → c .r ≡ d .r → c .g ≡ d .g → c .b ≡ d .b → c .a ≡ d .a → c ≡ d
-rgba-eq p q r s = λ i. record { r = p i; g = q i; b = r i; a = s i }
+pub tab-ext : (n : ℕ) (f : ℕ → ℕ) (l : List ℕ) → length l ≡ n → ((i : ℕ) → i < n → getD l i 0 ≡ f i) → l ≡ tab n f
+tab-ext n f l e h = ext-getD 0 l (tab n f) (e ∙ sym (length-tab n f)) (λ i b. h i (omega (arith, e)) ∙ sym (getD-tab n f i 0 (omega (arith, e))))
+
+-- what holds of each of a dot's four bytes
+pub each-byte : (P : ℕ → Type 0) → P 0 → P 1 → P 2 → P 3 → (k : ℕ) → k < 4 → P k
+each-byte P r g b a zero h = r
+each-byte P r g b a (suc zero) h = g
+each-byte P r g b a (suc (suc zero)) h = b
+each-byte P r g b a (suc (suc (suc zero))) h = a
+each-byte P r g b a (suc (suc (suc (suc k)))) h = let e : ⊥ = omega arith in absurd e
 
 -- byte j of a buffer is byte k of its dot i
 pub byte-of : (l : List ℕ) (i j k : ℕ) → k < 4 → j ≡ i * 4 + k → getD l j 0 ≡ chan (dotAt l i) k
 unfolding chan
-byte-of l i j zero h e = ap (λ (n : ℕ). getD l n 0) (omega arith)
-byte-of l i j (suc zero) h e = ap (λ (n : ℕ). getD l n 0) (omega arith)
-byte-of l i j (suc (suc zero)) h e = ap (λ (n : ℕ). getD l n 0) (omega arith)
-byte-of l i j (suc (suc (suc zero))) h e = ap (λ (n : ℕ). getD l n 0) (omega arith)
-byte-of l i j (suc (suc (suc (suc k)))) h e = let z : ⊥ = omega arith in absurd z
+byte-of l i j k h e = ap (λ (n : ℕ). getD l n 0) e ∙ each-byte (λ k. getD l (i * 4 + k) 0 ≡ chan (dotAt l i) k) (rw add-zero) refl refl refl k h
 
 -- a dot is known by its four bytes
 pub dot-of : (l : List ℕ) (i : ℕ) (d : RGBA) → ((j k : ℕ) → k < 4 → j ≡ i * 4 + k → getD l j 0 ≡ chan d k) → dotAt l i ≡ d
@@ -120,8 +125,7 @@ pub paint-ext : (F : ℕ → RGBA) (l m : List ℕ) → length m ≡ length l
     → ((i : ℕ) → i * 4 + 4 ≤ length l → dotAt m i ≡ F i) → ((i : ℕ) → length l < i * 4 + 4 → dotAt m i ≡ dotAt l i) → m ≡ paint F l
 unfolding paint
 paint-ext F l m e h k =
-    ext-getD 0 m _ (e ∙ sym (length-tab _ _))
-    (λ j b. byte m j ∙ at j (below (j / 4) (length l / 4)) ∙ sym (getD-tab _ _ j 0 (omega (arith, e))))
+    tab-ext (length l) _ m e (λ j b. byte m j ∙ at j (below (j / 4) (length l / 4)))
   where
     byte : (n : List ℕ) (j : ℕ) → getD n j 0 ≡ chan (dotAt n (j / 4)) (j % 4)
     byte n j = byte-of n (j / 4) j (j % 4) (omega arith) (omega arith)
@@ -138,7 +142,7 @@ module _ (p : ℕ → Bool) (g : ℕ → RGBA → RGBA) (l : List ℕ) where
   unfolding change
   length-change = length-paint _ l
 
-  -- a dot that lies in the buffer, one that does not, and one that is not picked
+  -- a dot that lies in the buffer, one that does not, one that is picked, and one that is not
   pub change-dot : (i : ℕ) → i * 4 + 4 ≤ length l → dotAt (change p g l) i ≡ (if p i then g i (dotAt l i) else dotAt l i)
   unfolding change
   change-dot i h = paint-dot _ l i h
@@ -160,8 +164,16 @@ module _ (p : ℕ → Bool) (g : ℕ → RGBA → RGBA) (l : List ℕ) where
   unfolding change
   change-ext m e h k = paint-ext _ l m e h k
 
+  -- nothing changes where g leaves each picked dot as it is, or no dot is picked
+  pub change-idle : ((i : ℕ) → p i ≡ true → dotAt l i ≡ g i (dotAt l i)) → l ≡ change p g l
+  change-idle h = change-ext l refl (λ i b. at i (p i) refl) (λ i b. refl)
+    where
+      at : (i : ℕ) (t : Bool) → p i ≡ t → dotAt l i ≡ (if t then g i (dotAt l i) else dotAt l i)
+      at i true e = h i e
+      at i false e = refl
+
   pub change-none : ((i : ℕ) → p i ≡ false) → l ≡ change p g l
-  change-none h = change-ext l refl (λ i b. rw (h i)) (λ i b. refl)
+  change-none h = change-idle (λ i e. absurd (true≢false (sym e ∙ h i)))
 
 -- ---- changes compared, and one after another
 
@@ -197,6 +209,15 @@ change-then p q g f l =
     at i true false = refl
     at i false true = refl
     at i false false = refl
+
+-- first g and then f on the same dots
+pub change-over : (p : ℕ → Bool) (g f : ℕ → RGBA → RGBA) (l : List ℕ) → change p f (change p g l) ≡ change p (λ i s. f i (g i s)) l
+change-over p g f l = change-then p p g f l ∙ change-same _ p _ _ l (λ i b. at i (p i))
+  where
+    at : (i : ℕ) (t : Bool)
+        → (if t || t then (if t then f i (if t then g i (dotAt l i) else dotAt l i) else g i (dotAt l i)) else dotAt l i) ≡ (if t then f i (g i (dotAt l i)) else dotAt l i)
+    at i true = refl
+    at i false = refl
 
 -- the same g on the dots of p and then on others, those of q
 pub change-more : (p q r : ℕ → Bool) (g : ℕ → RGBA → RGBA) (l : List ℕ)
@@ -297,8 +318,19 @@ pub run-step : (at i : ℕ) (g : ℕ → RGBA → RGBA) (l : List ℕ) → at �
     → setDot (change (within at i) g l) i (g i (dotAt l i)) ≡ change (within at (i + 1)) g l
 run-step at i g l h b = change-step _ _ g l i b (λ j. within-then at i (i + 1) j h (omega arith) ∙ rw within-one)
 
--- ---- a turn of a loop over a run: b is the buffer at the loop's head, d the new dot, m the buffer after the store
+-- ---- a turn of a loop over a run: b is the buffer at the loop's head, m the buffer after the turn
 
+-- a turn that does the dots from i to j, by f, which does to them what g says
+pub run-more : (at i j : ℕ) (f g : ℕ → RGBA → RGBA) (l : List ℕ) → at ≤ i → i ≤ j → ((k : ℕ) → i ≤ k → k < j → (d : RGBA) → f k d ≡ g k d)
+    → {b m : List ℕ} → b ≡ change (within at i) g l → m ≡ change (within i j) f b → m ≡ change (within at j) g l
+run-more at i j f g l h k same eb em =
+    em ∙ rw eb (change-by _ f g _ (λ n t. let w = within-true i j n t in same n (w .0) (w .1) _) ∙ run-then at i j g l h k)
+
+pub run-on : (at i j : ℕ) (g : ℕ → RGBA → RGBA) (l : List ℕ) → at ≤ i → i ≤ j
+    → {b m : List ℕ} → b ≡ change (within at i) g l → m ≡ change (within i j) g b → m ≡ change (within at j) g l
+run-on at i j g l h k = run-more at i j g g l h k (λ n u v d. refl)
+
+-- a turn that writes d as dot i
 pub run-turn : (at i : ℕ) (g : ℕ → RGBA → RGBA) (l : List ℕ) → at ≤ i → i * 4 + 4 ≤ length l
     → {b m : List ℕ} {d : RGBA} → b ≡ change (within at i) g l → d ≡ g i (dotAt l i) → m ≡ setDot b i d → m ≡ change (within at (i + 1)) g l
 run-turn at i g l h r eb ed em = em ∙ rw (ed, eb) (run-step at i g l h r)
@@ -306,3 +338,22 @@ run-turn at i g l h r eb ed em = em ∙ rw (ed, eb) (run-step at i g l h r)
 -- the dot that a turn reads at its own place is as it was
 pub run-old : (at i : ℕ) (g : ℕ → RGBA → RGBA) (l : List ℕ) {b : List ℕ} {s : RGBA} → b ≡ change (within at i) g l → s ≡ dotAt b i → s ≡ dotAt l i
 run-old at i g l eb es = es ∙ rw eb (change-kept _ g l i (within-high at i i (omega arith)))
+
+-- ---- what drawing comes to, by mode and alpha
+
+pub drawn-none : (t : Bool) (c s : RGBA) → c .a ≡ 0 → s ≡ drawn t c s
+unfolding drawn
+drawn-none true c s e = multiplied-none c s e
+drawn-none false c s e = blended-none c s e
+
+pub drawn-full : {t : Bool} (c s : RGBA) → t ≡ false → c .a ≡ 255 → c ≡ drawn t c s
+unfolding drawn
+drawn-full c s f e = rw f (rgba-eq refl refl refl e ∙ blended-full c s e)
+
+pub drawn-blended : {t : Bool} (c s : RGBA) → t ≡ false → blended c s ≡ drawn t c s
+unfolding drawn
+drawn-blended c s f = rw f
+
+pub drawn-multiplied : {t : Bool} (c s : RGBA) → t ≡ true → multiplied c s ≡ drawn t c s
+unfolding drawn
+drawn-multiplied c s f = rw f

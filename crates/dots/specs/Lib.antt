@@ -1,2 +1,3 @@
 -- What the contracts of dots say.
 pub mod Dots
+pub mod Tables

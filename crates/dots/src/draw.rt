@@ -3,8 +3,14 @@ ghost use mathlib.Core.Path.{_≡_};
 ghost use Prim.Native.Nat.{_+_, _*_, _≤_};
 ghost use lib.ListN.{length};
 ghost use Rattle.dots.specs.Dots.{change, within, drawn};
+use super::blend::blend_factors;
+use super::blend::blend_run;
+use super::blend::blend_terms;
 use super::dot::get_dot;
 use super::dot::set_dot;
+use super::fill::fill_run;
+use super::multiply::multiply_run;
+use super::multiply::multiply_table;
 use colour::RGBA;
 
 fn draw_dot(s: RGBA, multiply: bool, c: RGBA) -> RGBA
@@ -16,7 +22,8 @@ fn draw_dot(s: RGBA, multiply: bool, c: RGBA) -> RGBA
     s.blend_foreground(c)
 }
 
-pub fn draw_run(buf: &mut [u8], at: usize, count: usize, multiply: bool, c: RGBA)
+// Dot by dot, with nothing made beforehand.
+fn draw_few(buf: &mut [u8], at: usize, count: usize, multiply: bool, c: RGBA)
     requires { ⌜ (at + count) * 4 ≤ length (now buf) ⌝ }
     ensures { λ _. ⌜ now (buf .exit) ≡ change (within at (at + count)) (λ _ s. drawn multiply c s) (now (buf .entry)) ⌝ }
 {
@@ -28,4 +35,41 @@ pub fn draw_run(buf: &mut [u8], at: usize, count: usize, multiply: bool, c: RGBA
         set_dot(buf, i, d);
         i += 1;
     }
+}
+
+// From this many dots on, making the tables, or the arrays of a blend, and going by them is sooner
+// done than the dots one by one.
+const TABLE_DOTS: usize = 280;
+
+const LANE_DOTS: usize = 16;
+
+pub fn draw_run(buf: &mut [u8], at: usize, count: usize, multiply: bool, c: RGBA)
+    requires { ⌜ (at + count) * 4 ≤ length (now buf) ⌝ }
+    ensures { λ _. ⌜ now (buf .exit) ≡ change (within at (at + count)) (λ _ s. drawn multiply c s) (now (buf .entry)) ⌝ }
+{
+    if c.a == RGBA::TRANSPARENT {
+        return;
+    }
+    if multiply {
+        if count < TABLE_DOTS {
+            draw_few(buf, at, count, multiply, c);
+            return;
+        }
+        let tr = multiply_table(c.r, c.a);
+        let tg = multiply_table(c.g, c.a);
+        let tb = multiply_table(c.b, c.a);
+        multiply_run(buf, at, count, c, &tr, &tg, &tb);
+        return;
+    }
+    if c.a == RGBA::OPAQUE {
+        fill_run(buf, at, count, c);
+        return;
+    }
+    if count < LANE_DOTS {
+        draw_few(buf, at, count, multiply, c);
+        return;
+    }
+    let m = blend_factors(c);
+    let k = blend_terms(c);
+    blend_run(buf, at, count, c, &m, &k);
 }

@@ -1,12 +1,12 @@
 -- Each exported function's contract leaves one answer and one content of what is lent. Assumes nothing.
 use denote.Ref.{now}
 use Rattle.colour.proofs.OneAnswer.{OneAnswer, OneContent, both}
-use Rattle.thermal.proofs.thermal_with_alpha.Reads as with-alpha
-use Rattle.thermal.proofs.thermal_blend_foreground.Reads as blend-foreground
-use Rattle.thermal.proofs.thermal_blend_foreground_with_alpha.Reads as blend-foreground-with-alpha
-use Rattle.thermal.proofs.thermal_multiply_foreground.Reads as multiply-foreground
-use Rattle.thermal.proofs.thermal_color_for_number.Reads as color-for-number
-use Rattle.thermal.proofs.thermal_draw_dots.Reads as draw-dots
+use Rattle.thermal.proofs.colours.thermal_with_alpha.Reads as with-alpha
+use Rattle.thermal.proofs.colours.thermal_blend_foreground.Reads as blend-foreground
+use Rattle.thermal.proofs.colours.thermal_blend_foreground_with_alpha.Reads as blend-foreground-with-alpha
+use Rattle.thermal.proofs.colours.thermal_multiply_foreground.Reads as multiply-foreground
+use Rattle.thermal.proofs.colours.thermal_color_for_number.Reads as color-for-number
+use Rattle.thermal.proofs.colours.thermal_draw_dots.Reads as draw-dots
 
 with-alpha-one : OneAnswer with-alpha.Post
 with-alpha-one k a x y e f p q = both p q

@@ -10,7 +10,7 @@ colorOf n = rgba (n % 256) (n / 256 % 256) (n / 65536 % 256) (n / 16777216)
 unfoldable pub numberOf : RGBA → ℕ
 numberOf c = c .r + c .g * 256 + c .b * 65536 + c .a * 16777216
 
-abbrev pub colorsOf : ℕ → ℕ → ℕ → ℕ → RenderColors
+unfoldable pub colorsOf : ℕ → ℕ → ℕ → ℕ → RenderColors
 colorsOf paper one two three = record {
   «paper_color» = colorOf paper;
   «color_1» = colorOf one;

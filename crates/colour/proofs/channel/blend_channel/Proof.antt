@@ -3,7 +3,8 @@ use native.Mathlib.Omega.{arith}
 use native.Mathlib.Nat.{mul-le-mul-right}
 use mathlib.Core.Path.{_≡_}
 use Prim.Native.Nat.{ℕ, _*_, _+_, _-_, _/_, _≤_}
-use Rattle.colour.specs.Channel.{nearest, blendByte}
+use Rattle.colour.specs.Channel.{blendByte}
+use Rattle.colour.proofs.Laws.{by-256}
 use borrow.Author.Needs.{needs}
 use Rattle.colour.proofs.channel.blend_channel.Statement.{statement}
 use Rattle.colour.proofs.channel.blend_channel.Tie as tie
@@ -13,10 +14,6 @@ low c = mul-le-mul-right (c .args .a) (omega arith)
 
 high : (c : tie.Start) → c .args .s * (255 - c .args .a) ≤ 255 * (255 - c .args .a)
 high c = mul-le-mul-right (255 - c .args .a) (omega arith)
-
--- the whole number nearest n / 255, by two divisions by 256
-by-256 : (n : ℕ) → n ≤ 65025 → (n + 128 + (n + 128) / 256) / 256 ≡ nearest n 255
-by-256 n h = omega arith
 
 mul-t : tie.Need-mul-t
 mul-t c = omega (arith, low c)

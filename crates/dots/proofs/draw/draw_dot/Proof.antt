@@ -1,6 +1,5 @@
 -- `dots::draw_dot` meets its contract. Assumes nothing.
 use borrow.Author.Needs.{needs}
-use mathlib.Core.Path.{_∙_}
 use Rattle.dots.specs.Dots.{drawn}
 use Rattle.dots.proofs.draw.draw_dot.Statement.{statement}
 use Rattle.dots.proofs.draw.draw_dot.Tie as tie

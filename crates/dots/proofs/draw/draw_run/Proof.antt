@@ -1,72 +1,112 @@
--- `dots::draw_run` meets its contract. The loop's invariant: the dots from `at` to `i` are drawn on. Assumes nothing.
+-- `dots::draw_run` meets its contract. Assumes nothing.
 use native.Mathlib.Omega.{arith}
 use borrow.Author.Needs.{needs}
-use mathlib.Core.Path.{_≡_, refl, ap, _∙_}
-use Prim.Native.Nat.{ℕ, _+_, _-_, _≤_}
-use lib.ListN.{length}
-use Rattle.colour.specs.declared.RGBA.{RGBA}
-use Rattle.dots.specs.Dots.{change, within, drawn}
-use Rattle.dots.proofs.Laws.{run-none, run-turn, run-old}
+use mathlib.Core.Path.{_∙_}
+use Rattle.dots.proofs.Laws.{change-idle, change-by, drawn-none, drawn-full, drawn-blended, drawn-multiplied}
 use Rattle.dots.proofs.draw.draw_run.Statement.{statement}
 use Rattle.dots.proofs.draw.draw_run.Tie as tie
 
-abbrev Inv-loop : tie.InvT-loop
-Inv-loop buf₀ at count multiply c end i₀ buf i =
-    (at ≤ i) × (i ≤ at + count) × (length buf ≡ length buf₀) × (buf ≡ change (within at i) (λ _ s. drawn multiply c s) buf₀)
+returns : tie.Need-returns
+returns c =
+    let a = c .before .before .before .args in
+    change-idle _ _ (a .buf .now) (λ i e. drawn-none (a .multiply) (a .c) _ (c .if1 .taken))
 
-abbrev μ-loop : tie.MeasureT-loop
-μ-loop buf₀ at count multiply c end i₀ buf i = at + count - i
+draw-few-requires : tie.Need-draw-few-requires
+draw-few-requires c κs = search needs
 
-add-end : tie.Need-add-end Inv-loop μ-loop
-add-end c = omega arith
+same-length : tie.Need-same-length
+same-length c = search needs
 
-loop-holds : tie.Need-loop-holds Inv-loop μ-loop
-loop-holds c = (omega arith, omega arith, refl, run-none _ _ _)
+returns-2 : tie.Need-returns-2
+returns-2 c = search needs
 
-get-dot-requires : tie.Need-get-dot-requires Inv-loop μ-loop
-get-dot-requires c κs = omega arith
+multiply-table-requires : tie.Need-multiply-table-requires
+multiply-table-requires c κs = search needs
 
-draw-dot-requires : tie.Need-draw-dot-requires Inv-loop μ-loop
-draw-dot-requires c κs = search needs
+multiply-table-requires-2 : tie.Need-multiply-table-requires-2
+multiply-table-requires-2 c κs = search needs
 
-set-dot-requires : tie.Need-set-dot-requires Inv-loop μ-loop
-set-dot-requires c κs = omega arith
+multiply-table-requires-3 : tie.Need-multiply-table-requires-3
+multiply-table-requires-3 c κs = search needs
 
-add-i : tie.Need-add-i Inv-loop μ-loop
-add-i c = omega arith
+multiply-run-requires : tie.Need-multiply-run-requires
+multiply-run-requires c κs =
+    let t = c .before .before .before .before in
+    (omega arith, (t .before .before .multiply-table .ensures, t .before .multiply-table2 .ensures, t .multiply-table3 .ensures))
 
-loop-less : tie.Need-loop-less Inv-loop μ-loop
-loop-less c = omega arith
+same-length-2 : tie.Need-same-length-2
+same-length-2 c = search needs
 
-loop-again : tie.Need-loop-again Inv-loop μ-loop
-loop-again c =
-    let s = c .before .before in
-    let d = s .before .before in
-    let h = d .before .before .before .before in
-    let a = h .before .before .args in
-    let g : ℕ → RGBA → RGBA = λ _ s. drawn (a .multiply) (a .c) s in
-    let old = run-old (a .at) (h .loop .i) g (a .buf .now) (h .loop .inv .3) (d .before .get-dot .ensures) in
-    (omega arith, omega arith, omega arith, run-turn (a .at) (h .loop .i) g (a .buf .now) (omega arith) (omega arith) (h .loop .inv .3) (d .draw-dot .ensures ∙ ap (drawn (a .multiply) (a .c)) old) (s .set-dot .ensures))
+returns-3 : tie.Need-returns-3
+returns-3 c =
+    let t = c .before .before .before .before .before .before .before .before .before .before .before in
+    let a = t .before .before .before .before .args in
+    c .before .before .multiply-run .ensures ∙ change-by _ _ _ (a .buf .now) (λ i e. drawn-multiplied (a .c) _ (t .if2 .taken))
 
-same-length : tie.Need-same-length Inv-loop μ-loop
-same-length c = omega arith
+fill-run-requires : tie.Need-fill-run-requires
+fill-run-requires c κs = search needs
 
-returns : tie.Need-returns Inv-loop μ-loop
-returns c = let e : c .before .loop .i ≡ c .before .before .before .args .at + c .before .before .before .args .count = omega arith in rw e at (c .before .loop .inv .3)
+same-length-3 : tie.Need-same-length-3
+same-length-3 c = search needs
+
+returns-4 : tie.Need-returns-4
+returns-4 c =
+    let f = c .before .before .before .before in
+    let t = f .before .before in
+    let a = t .before .before .before .before .args in
+    c .before .before .fill-run .ensures ∙ change-by _ _ _ (a .buf .now) (λ i e. drawn-full (a .c) _ (t .if2 .left) (f .if4 .taken))
+
+draw-few-requires-2 : tie.Need-draw-few-requires-2
+draw-few-requires-2 c κs = search needs
+
+same-length-4 : tie.Need-same-length-4
+same-length-4 c = search needs
+
+returns-5 : tie.Need-returns-5
+returns-5 c = search needs
+
+blend-factors-requires : tie.Need-blend-factors-requires
+blend-factors-requires c κs = search needs
+
+blend-terms-requires : tie.Need-blend-terms-requires
+blend-terms-requires c κs = search needs
+
+blend-run-requires : tie.Need-blend-run-requires
+blend-run-requires c κs =
+    let t = c .before .before .before in
+    (omega arith, (t .before .blend-factors .ensures, t .blend-terms .ensures))
+
+same-length-5 : tie.Need-same-length-5
+same-length-5 c = search needs
+
+returns-6 : tie.Need-returns-6
+returns-6 c =
+    let t = c .before .before .before .before .before .before .before .before .before .before .before in
+    let a = t .before .before .before .before .args in
+    c .before .before .blend-run .ensures ∙ change-by _ _ _ (a .buf .now) (λ i e. drawn-blended (a .c) _ (t .if2 .left))
 
 pub draw-run-spec : {M : Type 1} → statement M
 draw-run-spec =
     tie.close
     (tie.spec
-    Inv-loop
-    μ-loop
-    add-end
-    loop-holds
-    get-dot-requires
-    draw-dot-requires
-    set-dot-requires
-    add-i
-    loop-less
-    loop-again
+    returns
+    draw-few-requires
     same-length
-    returns)
+    returns-2
+    multiply-table-requires
+    multiply-table-requires-2
+    multiply-table-requires-3
+    multiply-run-requires
+    same-length-2
+    returns-3
+    fill-run-requires
+    same-length-3
+    returns-4
+    draw-few-requires-2
+    same-length-4
+    returns-5
+    blend-factors-requires
+    blend-terms-requires
+    blend-run-requires
+    same-length-5
+    returns-6)

@@ -1,0 +1,174 @@
+//! The three decoders, two of them both for bits and for alphas.
+
+mod cases;
+
+use crate::boundary::{self, Decoded};
+use crate::report::{Entry, Progress, Report};
+use cases::Case;
+use oracle::colour::hex;
+use oracle::decoders::{decode, Answer, Input, Kind};
+use oracle::random::Random;
+use oracle::rules::{self, DONE, NO_ROOM, TOO_LARGE};
+
+/// Images of more dots are not asked of the original, which would take gigabytes for some.
+const MOST_DOTS: u64 = 1 << 19;
+
+/// Bytes before and after the lent ones.
+const BESIDE: usize = 32;
+
+pub fn compare(report: &mut Report) {
+    let mut random = Random::new(2);
+    let mut noise = vec![0; 4 * MOST_DOTS as usize + 4096];
+    noise.fill_with(|| random.u8());
+    for kind in Kind::ALL {
+        let mut judge = Judge {
+            noise: &noise,
+            entry: Entry::new(name(kind)),
+            progress: Progress::new(name(kind)),
+        };
+        cases::of(kind, &mut random, |case| judge.case(case));
+        report.add_entry(judge.entry);
+    }
+}
+
+fn name(kind: Kind) -> &'static str {
+    match kind {
+        Kind::RasterBits => "image_from_raster_bytes_single_color, bits",
+        Kind::RasterAlphas => "image_from_raster_bytes_single_color, alphas",
+        Kind::Column => "image_from_column_bytes_single_color",
+        Kind::LayerBits => "image_from_raster_bytes_multi_color, bits",
+        Kind::LayerAlphas => "image_from_raster_bytes_multi_color, alphas",
+    }
+}
+
+struct Judge<'a> {
+    /// What memory holds before a call.
+    noise: &'a [u8],
+    entry: Entry,
+    progress: Progress,
+}
+
+impl Judge<'_> {
+    fn case(&mut self, case: Case) {
+        let due = rules::due(&case.input, case.lent);
+        let (w, h) = rules::stretched(&case.input);
+        // A size above the limit is decided before `w * h` is worked out.
+        let rust = if due == TOO_LARGE || w * h > MOST_DOTS {
+            None
+        } else {
+            decode(&case.input)
+        };
+
+        let start = BESIDE + case.shift;
+        let before = &self.noise[..start + case.lent + BESIDE];
+        let mut memory = before.to_vec();
+        let ours = boundary::decode(&case.input, &mut memory[start..start + case.lent]);
+
+        let outside = due == NO_ROOM || rust.is_none();
+        let difference = match expected(due, case.lent, rust.as_ref()) {
+            Ok((expected, dots)) => {
+                let mut after = before.to_vec();
+                after[start..start + dots.len()].copy_from_slice(dots);
+                if ours != expected {
+                    Some(format!("{} expected, {} given", text(expected), text(ours)))
+                } else if memory != after {
+                    Some(first_difference(&memory, &after, start, case.lent, dots))
+                } else {
+                    None
+                }
+            }
+            Err(why) => Some(why),
+        };
+        let difference = difference.map(|what| format!("{}: {what}", describe(&case)));
+        self.entry.case(due, outside, difference);
+        self.progress.add(1);
+    }
+}
+
+/// What a call has to give, and the dots it has to write. The original and the scope have to agree
+/// on it where the original has an answer.
+fn expected(due: u8, lent: usize, rust: Option<&Answer>) -> Result<(Decoded, &[u8]), String> {
+    let refusal = Decoded {
+        number: due,
+        w: 0,
+        h: 0,
+    };
+    match rust {
+        None if due != DONE => Ok((refusal, &[])),
+        None => Err("the Rust has no answer, the scope asks for an image".into()),
+        Some(Answer::Refused(number)) if *number == due => Ok((refusal, &[])),
+        Some(Answer::Refused(number)) => Err(format!(
+            "the Rust refuses with {number}, the scope asks for {due}"
+        )),
+        Some(&Answer::Image { w, h, ref dots }) => {
+            let fits = dots.len() <= lent && dots.len() as u64 == 4 * u64::from(w) * u64::from(h);
+            match due {
+                DONE if fits => Ok((Decoded { number: DONE, w, h }, dots)),
+                NO_ROOM if dots.len() > lent => Ok((refusal, &[])),
+                _ => Err(format!(
+                    "the Rust gives {w} x {h}, the scope asks for {due}"
+                )),
+            }
+        }
+    }
+}
+
+fn text(decoded: Decoded) -> String {
+    let Decoded { number, w, h } = decoded;
+    format!("number {number}, {w} x {h}")
+}
+
+fn first_difference(memory: &[u8], after: &[u8], start: usize, lent: usize, dots: &[u8]) -> String {
+    let at = (0..after.len()).find(|&i| memory[i] != after[i]).unwrap();
+    if at < start {
+        return format!("the byte {} before the buffer changes", start - at);
+    }
+    let at = at - start;
+    if at >= lent {
+        return format!("the byte {} after the buffer changes", at - lent);
+    }
+    if at >= dots.len() {
+        return format!(
+            "byte {at} of the buffer changes, of which {} are the result's",
+            dots.len()
+        );
+    }
+    let dot_of = |bytes: &[u8]| {
+        let from = start + at / 4 * 4;
+        hex(u32::from_le_bytes(
+            bytes[from..from + 4].try_into().unwrap(),
+        ))
+    };
+    format!(
+        "at dot {} the Rust gives {}, this library {}",
+        at / 4,
+        dot_of(after),
+        dot_of(memory)
+    )
+}
+
+fn describe(case: &Case) -> String {
+    let Input {
+        width,
+        height,
+        stretch: (x, y),
+        num_colors,
+        colors,
+        ref data,
+        ..
+    } = case.input;
+    let colors = if case.input.kind.has_layers() {
+        format!("{num_colors} of the colors {}", colors.map(hex).join(" "))
+    } else {
+        format!("color {}", hex(colors[0]))
+    };
+    let mut shown: String = data.iter().take(40).map(|b| format!("{b:02x}")).collect();
+    if data.len() > 40 {
+        shown += "...";
+    }
+    format!(
+        "{width} x {height} by {x} x {y}, {colors}, {} bytes {shown}, {} bytes lent",
+        data.len(),
+        case.lent
+    )
+}

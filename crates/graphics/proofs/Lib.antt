@@ -1,0 +1,5 @@
+mod Places
+mod Scaling
+mod Codes
+mod Answers
+mod Layering

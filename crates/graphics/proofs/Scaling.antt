@@ -1,0 +1,116 @@
+-- The two loops that write an image: over the dots of a row, and over the rows. Each has a start, a next and an end. Assumes nothing.
+use mathlib.Core.Path.{_≡_, refl, sym, ap, _∙_}
+use mathlib.Core.Bool.{Bool}
+use mathlib.Core.List.{List}
+use Prim.Native.Nat.{ℕ, _+_, _-_, _*_, _/_, _%_, _≤_, _<_}
+use native.Mathlib.Nat.{le-trans, le-mul-of-pos-right, div-lt-iff-lt-mul, mul-le-mul-right, mul-comm, add-mul, zero-mul, add-zero}
+use native.Mathlib.Omega.{arith}
+use lib.ListN.{length}
+use Rattle.numbers.specs.Numbers.{limit}
+use Rattle.colour.specs.declared.RGBA.{RGBA}
+use Rattle.colour.specs.Colour.{withAlpha}
+use Rattle.dots.specs.Dots.{change, within}
+use Rattle.dots.proofs.Laws.{run-none, run-more, length-change}
+use Rattle.dots.proofs.Blocks.{in-block, in-row}
+use Rattle.graphics.specs.declared.scale.Source.{Source}
+use Rattle.graphics.specs.Formats.{alphaOf, bytesOf}
+use Rattle.graphics.specs.Decoding.{pixelOf}
+use Rattle.graphics.specs.Steps.{Sound, landed, sourcePixel, rowFrom, pictureOn}
+
+-- ---- what a sound source gives to read a dot
+
+pub sides : (s : Source) {n : ℕ} → Sound s n → (s .w ≤ limit) × (s .h ≤ limit)
+sides s o = (le-trans (le-mul-of-pos-right (s .w) (o .fx)) (o .wide), le-trans (le-mul-of-pos-right (s .h) (o .fy)) (o .tall))
+
+pub source-dot : (s : Source) {n j x : ℕ} → Sound s n → j < s .h * s .fy → x < s .w
+    → (s .w ≤ limit) × (s .h ≤ limit) × (x < s .w) × (j / s .fy < s .h) × (bytesOf (s .format) (s .w) (s .h) ≤ n)
+source-dot s {n} {j} {x} o hj hx =
+    (sides s o .0, sides s o .1, hx, div-lt-iff-lt-mul (o .fy) .1 hj, o .bytes)
+
+-- ---- a row: x source dots are written, up to dot i
+
+module _ (s : Source) (bytes : List ℕ) (blend : Bool) (at j : ℕ) (l : List ℕ) where
+  abbrev rowDot : ℕ → RGBA → RGBA
+  rowDot i d = landed blend (sourcePixel s bytes (i - at) j) d
+
+  pub record Across (x i : ℕ) (out : List ℕ) : Type 0 where
+    pub place : i ≡ at + x * s .fx
+    pub upto : x ≤ s .w
+    pub same : length out ≡ length l
+    pub sofar : out ≡ change (within at i) rowDot l
+
+  pub across-start : Across 0 at l
+  across-start = record { place = rw (zero-mul, add-zero); upto = omega arith; same = refl; sofar = run-none at rowDot l }
+
+  -- the block of source dot x lies in the row, and in the output
+  block-fits : (x : ℕ) → x < s .w → x * s .fx + s .fx ≤ s .w * s .fx
+  block-fits x h = omega (arith, mul-le-mul-right {m = x + 1} {n = s .w} (s .fx) (omega arith), add-mul x 1 (s .fx))
+
+  pub across-room : {x i : ℕ} {out : List ℕ} → Across x i out → x < s .w → (at + s .w * s .fx) * 4 ≤ length l → (i + s .fx) * 4 ≤ length out
+  across-room {x} a h r = omega (arith, a .place, a .same, block-fits x h)
+
+  pub across-next : {x i alpha : ℕ} {pixel : RGBA} {out out' : List ℕ} → Across x i out → x < s .w
+      → alpha ≡ alphaOf (s .format) bytes (s .w) (s .h) x (j / s .fy) → pixel ≡ withAlpha (s .color) alpha
+      → out' ≡ change (within i (i + s .fx)) (λ _ d. landed blend pixel d) out → Across (x + 1) (i + s .fx) out'
+  unfolding sourcePixel pixelOf
+  across-next {x} {i} {alpha} {pixel} {out} a h ea ep eo =
+      record {
+        place = omega (arith, a .place, add-mul x 1 (s .fx));
+        upto = omega arith;
+        same = ap length eo ∙ length-change _ _ out ∙ a .same;
+        sofar =
+            run-more at i (i + s .fx) _ rowDot l (omega (arith, a .place)) (omega arith)
+            (λ k u v d.
+            let q : (k - at) / s .fx ≡ x = in-block at x (s .fx) k (omega (arith, a .place)) (omega (arith, a .place)) in
+            rw (ep, ea, q)) (a .sofar) eo;
+      }
+
+  pub across-end : {x i : ℕ} {out : List ℕ} → Across x i out → s .w ≤ x → out ≡ rowFrom at (s .w * s .fx) blend (sourcePixel s bytes) j l
+  unfolding rowFrom
+  across-end {x} {i} a h =
+      let e : x ≡ s .w = omega (arith, a .upto) in
+      let p : i ≡ at + s .w * s .fx = a .place ∙ rw e in
+      a .sofar ∙ rw p
+
+-- ---- a picture of W by H dots: j rows are written, up to dot `at`
+
+module _ (W H : ℕ) (blend : Bool) (pixel : ℕ → ℕ → RGBA) (l : List ℕ) where
+  abbrev pictureDot : ℕ → RGBA → RGBA
+  pictureDot i d = landed blend (pixel (i % W) (i / W)) d
+
+  pub record Down (j at : ℕ) (out : List ℕ) : Type 0 where
+    pub place : at ≡ j * W
+    pub upto : j ≤ H
+    pub same : length out ≡ length l
+    pub sofar : out ≡ change (within 0 at) pictureDot l
+
+  pub down-start : Down 0 0 l
+  down-start = record { place = rw zero-mul; upto = omega arith; same = refl; sofar = run-none 0 pictureDot l }
+
+  -- row j lies in the picture, and in the output
+  row-fits : (j : ℕ) → j < H → j * W + W ≤ W * H
+  row-fits j h = omega (arith, mul-le-mul-right {m = j + 1} {n = H} W (omega arith), add-mul j 1 W, mul-comm W H)
+
+  pub down-room : {j at : ℕ} {out : List ℕ} → Down j at out → j < H → W * H * 4 ≤ length l → (at + W) * 4 ≤ length out
+  down-room {j} a h r = omega (arith, a .place, a .same, row-fits j h)
+
+  pub down-next : {j at : ℕ} {out out' : List ℕ} → Down j at out → j < H → out' ≡ rowFrom at W blend pixel j out → Down (j + 1) (at + W) out'
+  unfolding rowFrom
+  down-next {j} {at} {out} {out'} a h eo =
+      record {
+        place = omega (arith, a .place, add-mul j 1 W);
+        upto = omega arith;
+        same = ap length eo ∙ length-change _ _ out ∙ a .same;
+        sofar =
+            run-more 0 at (at + W) _ pictureDot l (omega arith) (omega arith)
+            (λ k u v d.
+            let r = in-row j W k (omega (arith, a .place)) (omega (arith, a .place)) in
+            rw (r .0, r .1, a .place)) (a .sofar) eo;
+      }
+
+  pub down-end : {j at : ℕ} {out : List ℕ} → Down j at out → H ≤ j → out ≡ pictureOn W H blend pixel l
+  unfolding pictureOn
+  down-end {j} {at} a h =
+      let e : j ≡ H = omega (arith, a .upto) in
+      let p : at ≡ W * H = a .place ∙ rw e (mul-comm H W) in
+      a .sofar ∙ rw p

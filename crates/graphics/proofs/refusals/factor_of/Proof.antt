@@ -1,0 +1,17 @@
+-- `graphics::refusals::factor_of` meets its contract. Assumes nothing.
+use mathlib.Core.Path.{_≡_, refl}
+use borrow.Author.Tests.{eq-eqb, ne-eqb}
+use Rattle.graphics.specs.Decoding.{factor}
+use Rattle.graphics.proofs.refusals.factor_of.Statement.{statement}
+use Rattle.graphics.proofs.refusals.factor_of.Tie as tie
+
+returns : tie.Need-returns
+unfolding factor
+returns c = rw (eq-eqb _ 0 (c .if1 .taken))
+
+returns-2 : tie.Need-returns-2
+unfolding factor
+returns-2 c = rw (ne-eqb _ 0 (c .if1 .left))
+
+pub factor-of-spec : {M : Type 1} → statement M
+factor-of-spec = tie.close (tie.spec returns returns-2)

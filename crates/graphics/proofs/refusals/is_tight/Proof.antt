@@ -1,0 +1,35 @@
+-- `graphics::refusals::is_tight` meets its contract. Assumes nothing.
+use mathlib.Core.Path.{_≡_, refl}
+use native.Mathlib.Omega.{arith}
+use Rattle.graphics.specs.Decoding.{isTight}
+use Rattle.graphics.proofs.Codes.{area}
+use borrow.Author.Needs.{needs}
+use Rattle.graphics.proofs.refusals.is_tight.Statement.{statement}
+use Rattle.graphics.proofs.refusals.is_tight.Tie as tie
+
+mul-result : tie.Need-mul-result
+mul-result c = search needs
+
+cast-result : tie.Need-cast-result
+cast-result c = search needs
+
+mul-result-2 : tie.Need-mul-result-2
+mul-result-2 c = search needs
+
+cast-result-2 : tie.Need-cast-result-2
+cast-result-2 c = search needs
+
+mul-result-3 : tie.Need-mul-result-3
+mul-result-3 c = omega (arith, area (c .pre .0) (c .pre .1))
+
+mul-result-4 : tie.Need-mul-result-4
+mul-result-4 c = omega (arith, area (c .pre .0) (c .pre .1))
+
+returns : tie.Need-returns
+unfolding isTight
+returns c = refl
+
+pub is-tight-spec : {M : Type 1} → statement M
+is-tight-spec =
+    tie.close
+    (tie.spec mul-result cast-result mul-result-2 cast-result-2 mul-result-3 mul-result-4 returns)

@@ -1,0 +1,49 @@
+-- The inner steps of decoding: a source that is known to be sound, put on an output or blended onto it.
+use Prim.Native.Nat.{ℕ, _+_, _-_, _*_, _/_, _%_, _≤_, _<_}
+use mathlib.Core.Path.{_≡_}
+use mathlib.Core.Bool.{Bool}
+use mathlib.Core.List.{List}
+use lib.ListN.{length}
+use Rattle.numbers.specs.Numbers.{limit}
+use Rattle.colour.specs.Choice.{if_then_else_}
+use Rattle.colour.specs.Colour.{withAlpha, blended}
+use Rattle.colour.specs.declared.RGBA.{RGBA}
+use Rattle.dots.specs.Dots.{change, within}
+use Rattle.graphics.specs.declared.scale.Source.{Source}
+use Rattle.graphics.specs.Formats.{alphaOf, bytesOf, rasterOf}
+use Rattle.graphics.specs.Decoding.{pixelOf}
+use Rattle.graphics.specs.Layers.{layerBytes}
+
+-- n bytes hold the source, whose stretched sides are within the limit
+pub record Sound (s : Source) (n : ℕ) : Type 0 where
+  pub fx : 0 < s .fx
+  pub fy : 0 < s .fy
+  pub wide : s .w * s .fx ≤ limit
+  pub tall : s .h * s .fy ≤ limit
+  pub bytes : bytesOf (s .format) (s .w) (s .h) ≤ n
+
+-- the same source in another colour
+abbrev pub inColor : Source → RGBA → Source
+inColor s c = record { format = s .format; w = s .w; h = s .h; fx = s .fx; fy = s .fy; color = c }
+
+-- n layers in `size` bytes, each as long as its source asks for
+pub record Layered (bits : Bool) (s : Source) (n size : ℕ) : Type 0 where
+  pub format : s .format ≡ rasterOf bits
+  pub sound : Sound s (layerBytes bits (s .w) (s .h))
+  pub whole : n * (1 + layerBytes bits (s .w) (s .h)) ≤ size
+
+-- a pixel p put, or blended onto the dot d
+unfoldable pub landed : Bool → RGBA → RGBA → RGBA
+landed blend p d = if blend then blended p d else p
+
+-- the pixels of a source
+unfoldable pub sourcePixel : Source → List ℕ → ℕ → ℕ → RGBA
+sourcePixel s bytes = pixelOf (s .format) bytes (s .w) (s .h) (s .fx) (s .fy) (s .color)
+
+-- row j of a picture W dots wide, from dot `at` on
+unfoldable pub rowFrom : ℕ → ℕ → Bool → (ℕ → ℕ → RGBA) → ℕ → List ℕ → List ℕ
+rowFrom at W blend pixel j out = change (within at (at + W)) (λ i d. landed blend (pixel (i - at) j) d) out
+
+-- a picture of W by H dots from the first dot on
+unfoldable pub pictureOn : ℕ → ℕ → Bool → (ℕ → ℕ → RGBA) → List ℕ → List ℕ
+pictureOn W H blend pixel out = change (within 0 (W * H)) (λ i d. landed blend (pixel (i % W) (i / W)) d) out

@@ -1,0 +1,78 @@
+// The one way from a source to dots: each source dot becomes a block of dots on the output.
+ghost use mathlib.Core.Path.{_≡_};
+ghost use Prim.Native.Nat.{_+_, _-_, _*_, _/_, _≤_, _<_};
+ghost use lib.ListN.{length};
+ghost use Rattle.dots.specs.Dots.{change, within};
+ghost use Rattle.graphics.specs.Steps.{Sound, inColor, landed, sourcePixel, rowFrom, pictureOn};
+use super::formats::Format;
+use super::formats::alpha_at;
+use colour::RGBA;
+use dots::draw_run;
+use dots::fill_run;
+
+// An image but for its data: its format, its sides, the stretch of each, and its colour.
+pub struct Source {
+    pub format: Format,
+    pub w: usize,
+    pub h: usize,
+    pub fx: usize,
+    pub fy: usize,
+    pub color: RGBA,
+}
+
+impl Source {
+    pub fn in_color(mut self, color: RGBA) -> Self
+        ensures { λ r. ⌜ r ≡ inColor self color ⌝ }
+    {
+        self.color = color;
+        self
+    }
+}
+
+fn land_run(out: &mut [u8], at: usize, count: usize, pixel: RGBA, blend: bool)
+    requires { ⌜ (at + count) * 4 ≤ length (now out) ⌝ }
+    ensures { λ _. ⌜ now (out .exit) ≡ change (within at (at + count)) (λ _ d. landed blend pixel d) (now (out .entry)) ⌝ }
+{
+    if blend {
+        draw_run(out, at, count, false, pixel);
+        return;
+    }
+    fill_run(out, at, count, pixel);
+}
+
+fn scale_pixels(out: &mut [u8], at: usize, data: &[u8], source: Source, j: usize, blend: bool)
+    requires { ⌜ Sound source (length (now «data»)) ⌝ }
+    requires { ⌜ (j < source .h * source .fy) × ((at + source .w * source .fx) * 4 ≤ length (now out)) ⌝ }
+    ensures { λ _. ⌜ now (out .exit) ≡ rowFrom at (source .w * source .fx) blend (sourcePixel source (now («data» .entry))) j (now (out .entry)) ⌝ }
+{
+    let format = source.format;
+    let w = source.w;
+    let h = source.h;
+    let fx = source.fx;
+    let y = j / source.fy;
+    let mut x = 0;
+    let mut i = at;
+    while x < w {
+        let alpha = alpha_at(data, format, w, h, x, y);
+        let pixel = source.color.with_alpha(alpha);
+        land_run(out, i, fx, pixel, blend);
+        i += fx;
+        x += 1;
+    }
+}
+
+pub fn decode_single_color(out: &mut [u8], data: &[u8], source: Source, blend: bool)
+    requires { ⌜ Sound source (length (now «data»)) ⌝ }
+    requires { ⌜ source .w * source .fx * (source .h * source .fy) * 4 ≤ length (now out) ⌝ }
+    ensures { λ _. ⌜ now (out .exit) ≡ pictureOn (source .w * source .fx) (source .h * source .fy) blend (sourcePixel source (now («data» .entry))) (now (out .entry)) ⌝ }
+{
+    let wide = source.w * source.fx;
+    let tall = source.h * source.fy;
+    let mut j = 0;
+    let mut at = 0;
+    while j < tall {
+        scale_pixels(out, at, data, source, j, blend);
+        at += wide;
+        j += 1;
+    }
+}

@@ -1,0 +1,2 @@
+-- Document 01, "Numbers an entry can give".
+pub mod Numbers
