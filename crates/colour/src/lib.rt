@@ -3,6 +3,7 @@
 pub mod channel;
 
 ghost use mathlib.Core.Path.{_≡_};
+ghost use mathlib.Core.Logic.{_⊎_};
 ghost use Rattle.colour.specs.Colour.{blank, white, withAlpha, colorForNumber, blendedAt, blended, multiplied};
 use channel::blend_channel;
 use channel::multiply_channel;
@@ -80,22 +81,31 @@ impl RGBA {
     pub fn blend_foreground_with_alpha(self, color: RGBA, alpha: u8) -> Self
         ensures { λ r. ⌜ r ≡ blendedAt alpha color self ⌝ }
     {
-        if alpha == RGBA::OPAQUE {
-            return RGBA {
-                r: color.r,
-                g: color.g,
-                b: color.b,
-                a: RGBA::OPAQUE,
-            };
+        match alpha {
+            1..=254 => RGBA {
+                r: blend_channel(self.r, color.r, alpha),
+                g: blend_channel(self.g, color.g, alpha),
+                b: blend_channel(self.b, color.b, alpha),
+                a: self.a,
+            },
+            _ => self.covered(color, alpha),
         }
+    }
+
+    // Blending where nothing is worked out. The dots of a bit image go either way at random, so
+    // both ways meet here and the compiler makes a choice of it, and no branch.
+    fn covered(self, color: RGBA, alpha: u8) -> Self
+        requires { ⌜ (alpha ≡ 0) ⊎ (alpha ≡ 255) ⌝ }
+        ensures { λ r. ⌜ r ≡ blendedAt alpha color self ⌝ }
+    {
         if alpha == RGBA::TRANSPARENT {
             return self;
         }
         RGBA {
-            r: blend_channel(self.r, color.r, alpha),
-            g: blend_channel(self.g, color.g, alpha),
-            b: blend_channel(self.b, color.b, alpha),
-            a: self.a,
+            r: color.r,
+            g: color.g,
+            b: color.b,
+            a: RGBA::OPAQUE,
         }
     }
 }

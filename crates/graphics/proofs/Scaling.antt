@@ -1,21 +1,23 @@
 -- The two loops that write an image: over the dots of a row, and over the rows. Each has a start, a next and an end. Assumes nothing.
 use mathlib.Core.Path.{_≡_, refl, sym, ap, _∙_}
-use mathlib.Core.Bool.{Bool}
+use mathlib.Core.Bool.{Bool, true, false, not, _&&_, true≢false}
 use mathlib.Core.List.{List}
 use Prim.Native.Nat.{ℕ, _+_, _-_, _*_, _/_, _%_, _≤_, _<_}
-use native.Mathlib.Nat.{le-trans, le-mul-of-pos-right, div-lt-iff-lt-mul, mul-le-mul-right, mul-comm, add-mul, zero-mul, add-zero}
+use native.Mathlib.Nat.{div-add-mod', mod-lt, div-eq-of-lt-le, le-trans, le-mul-of-pos-right, div-lt-iff-lt-mul, mul-le-mul-right, mul-comm, add-mul, zero-mul, add-zero}
 use native.Mathlib.Omega.{arith}
 use lib.ListN.{length}
+use lib.Dec.{eqb}
+use borrow.Author.Tests.{eqb-false, not-true}
 use Rattle.numbers.specs.Numbers.{limit}
 use Rattle.colour.specs.declared.RGBA.{RGBA}
 use Rattle.colour.specs.Colour.{withAlpha}
-use Rattle.dots.specs.Dots.{change, within}
-use Rattle.dots.proofs.Laws.{run-none, run-more, length-change}
+use Rattle.dots.specs.Dots.{dotAt, change, within}
+use Rattle.dots.proofs.Laws.{run-none, run-more, length-change, change-by, change-picked, within-yes, within-true}
 use Rattle.dots.proofs.Blocks.{in-block, in-row}
 use Rattle.graphics.specs.declared.scale.Source.{Source}
 use Rattle.graphics.specs.Formats.{alphaOf, bytesOf}
 use Rattle.graphics.specs.Decoding.{pixelOf}
-use Rattle.graphics.specs.Steps.{Sound, landed, sourcePixel, rowFrom, pictureOn}
+use Rattle.graphics.specs.Steps.{Sound, Above, repeated, landed, sourcePixel, rowFrom, pictureOn}
 
 -- ---- what a sound source gives to read a dot
 
@@ -114,3 +116,59 @@ module _ (W H : ℕ) (blend : Bool) (pixel : ℕ → ℕ → RGBA) (l : List ℕ
       let e : j ≡ H = omega (arith, a .upto) in
       let p : at ≡ W * H = a .place ∙ rw e (mul-comm H W) in
       a .sofar ∙ rw p
+
+-- ---- a row that is the row above it
+
+pub is-repeated : (j fy : ℕ) (blend : Bool) → repeated j fy blend ≡ true → (blend ≡ false) × (j % fy ≡ 0 → ⊥)
+unfolding repeated
+is-repeated j fy true e = absurd (true≢false (sym e))
+is-repeated j fy false e = (refl, eqb-false (j % fy) 0 (not-true _ e))
+
+-- such a row and the one above it show one row of source dots
+one-source : (j fy : ℕ) → 0 < fy → (j % fy ≡ 0 → ⊥) → (0 < j) × ((j - 1) / fy ≡ j / fy)
+one-source j fy p n =
+    let d : j / fy * fy + j % fy ≡ j = div-add-mod' j fy in
+    let m : j % fy < fy = mod-lt j p in
+    (omega arith, div-eq-of-lt-le fy (omega arith) (omega (arith, add-mul (j / fy) 1 fy)))
+
+row-before : (j w : ℕ) → 0 < j → j * w ≡ (j - 1) * w + w
+row-before j w p =
+    let o : j - 1 + 1 ≡ j = omega arith in
+    omega (arith, add-mul (j - 1) 1 w, ap (λ (n : ℕ). n * w) o)
+
+module _ (s : Source) (bytes : List ℕ) (l : List ℕ) where
+  abbrev W : ℕ
+  W = s .w * s .fx
+
+  abbrev pixel : ℕ → ℕ → RGBA
+  pixel = sourcePixel s bytes
+
+  same-pixel : (j i : ℕ) → (j - 1) / s .fy ≡ j / s .fy → pixel i (j - 1) ≡ pixel i j
+  unfolding sourcePixel pixelOf
+  same-pixel j i e = rw e
+
+  -- what the row above holds
+  above : {j at : ℕ} {out : List ℕ} → Down W (s .h * s .fy) false pixel l j at out → 0 < j → at * 4 ≤ length l → (i : ℕ) → at ≤ i → i < at + W → dotAt out (i - W) ≡ pixel (i - at) (j - 1)
+  unfolding landed
+  above {j} {at} a p r i u v =
+      let e : at ≡ (j - 1) * W + W = a .place ∙ row-before j W p in
+      let q = in-row (j - 1) W (i - W) (omega arith) (omega arith) in
+      let k : i - W - (j - 1) * W ≡ i - at = omega arith in
+      rw (a .sofar) (change-picked _ _ l (i - W) (within-yes 0 at (i - W) (omega arith) (omega arith)) (omega arith) ∙ rw (q .0, q .1, k))
+
+  pub down-above : {j at : ℕ} {blend : Bool} {out : List ℕ} → Down W (s .h * s .fy) blend pixel l j at out → 0 < s .fy → (at + W) * 4 ≤ length out → Above s bytes blend at j out
+  down-above {j} {at} {blend} {out} a p r =
+      record {
+        room = λ e. let o = one-source j (s .fy) p (is-repeated j (s .fy) blend e .1) in omega (arith, a .place, row-before j W (o .0));
+        dots = λ e i u v.
+            let t = is-repeated j (s .fy) blend e in
+            let o = one-source j (s .fy) p (t .1) in
+            above (rw (t .0) at a) (o .0) (omega (arith, a .same)) i u v ∙ same-pixel j (i - at) (o .1);
+      }
+
+-- the row above once more is row j
+pub repeat-is-row : (s : Source) (bytes : List ℕ) (blend : Bool) (at j : ℕ) (out : List ℕ) → Above s bytes blend at j out → repeated j (s .fy) blend ≡ true
+    → {m : List ℕ} → m ≡ change (within at (at + s .w * s .fx)) (λ i _. dotAt out (i - s .w * s .fx)) out → m ≡ rowFrom at (s .w * s .fx) blend (sourcePixel s bytes) j out
+unfolding rowFrom landed
+repeat-is-row s bytes blend at j out a e em =
+    em ∙ rw (is-repeated j (s .fy) blend e .0) (change-by _ _ _ out (λ i w. let b = within-true at (at + s .w * s .fx) i w in a .dots e i (b .0) (b .1)))

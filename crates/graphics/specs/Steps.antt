@@ -1,14 +1,14 @@
 -- The inner steps of decoding: a source that is known to be sound, put on an output or blended onto it.
 use Prim.Native.Nat.{ℕ, _+_, _-_, _*_, _/_, _%_, _≤_, _<_}
 use mathlib.Core.Path.{_≡_}
-use mathlib.Core.Bool.{Bool}
+use mathlib.Core.Bool.{Bool, true, not, _&&_}
 use mathlib.Core.List.{List}
-use lib.ListN.{length}
+use lib.Dec.{eqb}
 use Rattle.numbers.specs.Numbers.{limit}
 use Rattle.colour.specs.Choice.{if_then_else_}
 use Rattle.colour.specs.Colour.{withAlpha, blended}
 use Rattle.colour.specs.declared.RGBA.{RGBA}
-use Rattle.dots.specs.Dots.{change, within}
+use Rattle.dots.specs.Dots.{dotAt, change, within}
 use Rattle.graphics.specs.declared.scale.Source.{Source}
 use Rattle.graphics.specs.Formats.{alphaOf, bytesOf, rasterOf}
 use Rattle.graphics.specs.Decoding.{pixelOf}
@@ -36,6 +36,10 @@ pub record Layered (bits : Bool) (s : Source) (n size : ℕ) : Type 0 where
 unfoldable pub landed : Bool → RGBA → RGBA → RGBA
 landed blend p d = if blend then blended p d else p
 
+-- row j is put, and is the row above it
+unfoldable pub repeated : ℕ → ℕ → Bool → Bool
+repeated j fy blend = not blend && not (eqb (j % fy) 0)
+
 -- the pixels of a source
 unfoldable pub sourcePixel : Source → List ℕ → ℕ → ℕ → RGBA
 sourcePixel s bytes = pixelOf (s .format) bytes (s .w) (s .h) (s .fx) (s .fy) (s .color)
@@ -47,3 +51,8 @@ rowFrom at W blend pixel j out = change (within at (at + W)) (λ i d. landed ble
 -- a picture of W by H dots from the first dot on
 unfoldable pub pictureOn : ℕ → ℕ → Bool → (ℕ → ℕ → RGBA) → List ℕ → List ℕ
 pictureOn W H blend pixel out = change (within 0 (W * H)) (λ i d. landed blend (pixel (i % W) (i / W)) d) out
+
+-- where row j is the row above it, that one is there
+pub record Above (s : Source) (bytes : List ℕ) (blend : Bool) (at j : ℕ) (out : List ℕ) : Type 0 where
+  pub room : repeated j (s .fy) blend ≡ true → s .w * s .fx ≤ at
+  pub dots : repeated j (s .fy) blend ≡ true → (i : ℕ) → at ≤ i → i < at + s .w * s .fx → dotAt out (i - s .w * s .fx) ≡ sourcePixel s bytes (i - at) j

@@ -2,13 +2,15 @@
 ghost use mathlib.Core.Path.{_≡_};
 ghost use Prim.Native.Nat.{_+_, _-_, _*_, _/_, _≤_, _<_};
 ghost use lib.ListN.{length};
-ghost use Rattle.dots.specs.Dots.{change, within};
-ghost use Rattle.graphics.specs.Steps.{Sound, inColor, landed, sourcePixel, rowFrom, pictureOn};
+ghost use Rattle.dots.specs.Dots.{dotAt, setDot, change, within};
+ghost use Rattle.graphics.specs.Steps.{Sound, inColor, repeated, landed, sourcePixel, Above, rowFrom, pictureOn};
 use super::formats::Format;
 use super::formats::alpha_at;
 use colour::RGBA;
 use dots::draw_run;
 use dots::fill_run;
+use dots::get_dot;
+use dots::set_dot;
 
 // An image but for its data: its format, its sides, the stretch of each, and its colour.
 pub struct Source {
@@ -29,10 +31,27 @@ impl Source {
     }
 }
 
+fn land_dot(out: &mut [u8], i: usize, pixel: RGBA, blend: bool)
+    requires { ⌜ i * 4 + 4 ≤ length (now out) ⌝ }
+    ensures { λ _. ⌜ now (out .exit) ≡ setDot (now (out .entry)) i (landed blend pixel (dotAt (now (out .entry)) i)) ⌝ }
+{
+    if blend {
+        let d = get_dot(out, i);
+        set_dot(out, i, d.blend_foreground(pixel));
+        return;
+    }
+    set_dot(out, i, pixel);
+}
+
+// A run of one dot, as most are, is no run.
 fn land_run(out: &mut [u8], at: usize, count: usize, pixel: RGBA, blend: bool)
     requires { ⌜ (at + count) * 4 ≤ length (now out) ⌝ }
     ensures { λ _. ⌜ now (out .exit) ≡ change (within at (at + count)) (λ _ d. landed blend pixel d) (now (out .entry)) ⌝ }
 {
+    if count == 1 {
+        land_dot(out, at, pixel, blend);
+        return;
+    }
     if blend {
         draw_run(out, at, count, false, pixel);
         return;
@@ -61,6 +80,45 @@ fn scale_pixels(out: &mut [u8], at: usize, data: &[u8], source: Source, j: usize
     }
 }
 
+// The row of dots before dot `at` once more.
+fn repeat_row(out: &mut [u8], at: usize, wide: usize)
+    requires { ⌜ (wide ≤ at) × ((at + wide) * 4 ≤ length (now out)) ⌝ }
+    ensures { λ _. ⌜ now (out .exit) ≡ change (within at (at + wide)) (λ i _. dotAt (now (out .entry)) (i - wide)) (now (out .entry)) ⌝ }
+{
+    let end = at + wide;
+    let mut i = at;
+    while i < end {
+        let d = get_dot(out, i - wide);
+        set_dot(out, i, d);
+        i += 1;
+    }
+}
+
+// A row that is put is the row above it, unless a row of source dots begins with it.
+fn repeats(j: usize, fy: usize, blend: bool) -> bool
+    requires { ⌜ 0 < fy ⌝ }
+    ensures { λ r. ⌜ r ≡ repeated j fy blend ⌝ }
+{
+    if blend {
+        return false;
+    }
+    j % fy != 0
+}
+
+fn draw_row(out: &mut [u8], at: usize, data: &[u8], source: Source, j: usize, blend: bool)
+    requires { ⌜ Sound source (length (now «data»)) ⌝ }
+    requires { ⌜ (j < source .h * source .fy) × ((at + source .w * source .fx) * 4 ≤ length (now out)) ⌝ }
+    requires { ⌜ Above source (now «data») blend at j (now out) ⌝ }
+    ensures { λ _. ⌜ now (out .exit) ≡ rowFrom at (source .w * source .fx) blend (sourcePixel source (now («data» .entry))) j (now (out .entry)) ⌝ }
+{
+    if repeats(j, source.fy, blend) {
+        let wide = source.w * source.fx;
+        repeat_row(out, at, wide);
+        return;
+    }
+    scale_pixels(out, at, data, source, j, blend);
+}
+
 pub fn decode_single_color(out: &mut [u8], data: &[u8], source: Source, blend: bool)
     requires { ⌜ Sound source (length (now «data»)) ⌝ }
     requires { ⌜ source .w * source .fx * (source .h * source .fy) * 4 ≤ length (now out) ⌝ }
@@ -71,7 +129,7 @@ pub fn decode_single_color(out: &mut [u8], data: &[u8], source: Source, blend: b
     let mut j = 0;
     let mut at = 0;
     while j < tall {
-        scale_pixels(out, at, data, source, j, blend);
+        draw_row(out, at, data, source, j, blend);
         at += wide;
         j += 1;
     }

@@ -2,7 +2,7 @@
 use Prim.Native.Nat.{_-_}
 use native.Mathlib.Omega.{arith}
 use Rattle.graphics.specs.Steps.{sourcePixel}
-use Rattle.graphics.proofs.Scaling.{Down, down-start, down-room, down-next, down-end}
+use Rattle.graphics.proofs.Scaling.{Down, down-start, down-room, down-next, down-end, down-above}
 use borrow.Author.Needs.{needs}
 use Rattle.graphics.proofs.scale.decode_single_color.Statement.{statement}
 use Rattle.graphics.proofs.scale.decode_single_color.Tie as tie
@@ -22,11 +22,12 @@ mul-tall c = search needs
 loop-holds : tie.Need-loop-holds Inv-loop μ-loop
 loop-holds c = down-start _ _ _ _ _
 
-scale-pixels-requires : tie.Need-scale-pixels-requires Inv-loop μ-loop
-scale-pixels-requires c κs =
+draw-row-requires : tie.Need-draw-row-requires Inv-loop μ-loop
+draw-row-requires c κs =
     let l = c .before .before in
     let b = l .before .before .before .before .before in
-    (b .pre .0, (c .before .loop-test .taken, down-room _ _ _ _ _ (l .loop .inv) (c .before .loop-test .taken) (b .pre .1)))
+    let r = down-room _ _ _ _ _ (l .loop .inv) (c .before .loop-test .taken) (b .pre .1) in
+    (b .pre .0, ((c .before .loop-test .taken, r), down-above _ _ _ (l .loop .inv) (b .pre .0 .fy) r))
 
 add-at : tie.Need-add-at Inv-loop μ-loop
 add-at c =
@@ -43,7 +44,7 @@ loop-less c = search needs
 loop-again : tie.Need-loop-again Inv-loop μ-loop
 loop-again c =
     let l = c .before .before .before .before .before in
-    down-next _ _ _ _ _ (l .loop .inv) (c .before .before .before .before .loop-test .taken) (c .before .before .scale-pixels .ensures)
+    down-next _ _ _ _ _ (l .loop .inv) (c .before .before .before .before .loop-test .taken) (c .before .before .draw-row .ensures)
 
 same-length : tie.Need-same-length Inv-loop μ-loop
 same-length c = search needs
@@ -60,7 +61,7 @@ decode-single-color-spec =
     mul-wide
     mul-tall
     loop-holds
-    scale-pixels-requires
+    draw-row-requires
     add-at
     add-j
     loop-less
