@@ -7,4 +7,3 @@ mod Doubled
 pub mod Laws
 pub mod OneAnswer
 mod Unique
-mod Examples

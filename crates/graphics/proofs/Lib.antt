@@ -3,3 +3,5 @@ mod Scaling
 mod Codes
 mod Answers
 mod Layering
+mod Unique
+mod Examples

@@ -50,7 +50,7 @@ fn agrees(s: &[u8], at: usize) -> bool
     }
 }
 
-fn the_colors() -> RenderColors {
+pub fn the_colors() -> RenderColors {
     RenderColors {
         paper_color: RGBA {
             r: 1,

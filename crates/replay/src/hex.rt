@@ -20,6 +20,26 @@ pub fn byte_at(s: &[u8], at: usize) -> u8
     digit(s[at]) * 16 + digit(s[at + 1])
 }
 
+// The number that `digits` digits spell, or its last eight.
+pub fn number_at(s: &[u8], at: usize, digits: usize) -> u32
+    requires { ⌜ at + digits ≤ length (now s) ⌝ }
+{
+    let mut n: u32 = 0;
+    let mut i = 0;
+    while i < digits {
+        n = n % 0x1000_0000 * 16 + widened(digit(s[at + i]));
+        i += 1;
+    }
+    n
+}
+
+fn widened(x: u8) -> u32
+    requires { ⌜ x < 16 ⌝ }
+    ensures { λ r. ⌜ r < 16 ⌝ }
+{
+    x as u32
+}
+
 pub fn color_at(s: &[u8], at: usize) -> RGBA
     requires { ⌜ at + 8 ≤ length (now s) ⌝ }
 {

@@ -1,12 +1,18 @@
 // Replays the fixed lists of the original's answers, and says of each how many lines agree with
 // this project and how many do not.
 mod colour_list;
+mod decoders_list;
 mod hex;
 
 use libc::STDOUT_FILENO;
 
 fn main() {
     tell(b"colour", colour_list::replay(b"colour.txt"));
+    tell(b"decoders", decoders_list::replay(b"decoders.txt"));
+    tell(
+        b"decoders' refusals",
+        decoders_list::replay(b"decoders_refusals.txt"),
+    );
 }
 
 pub struct Tally {
