@@ -1,6 +1,6 @@
 -- `roundAway` of the product is within 65041 / 130050 of s * c * a / 65025, and at a = 255 it is the whole number nearest s * c / 255. Assumes nothing.
 use mathlib.Core.Path.{_≡_, refl, sym, ap, _∙_, subst}
-use mathlib.Core.Bool.{Bool, true, false, true≢false}
+use mathlib.Core.Bool.{true, false, true≢false}
 use Prim.Native.Nat.{ℕ, _+_, _-_, _*_, _/_, _^_, _≤_, _<_}
 use native.Mathlib.Nat.{le-trans, le-of-eq, mul-le-mul, mul-assoc, mul-comm, mul-left-comm, mul-right-comm, le-of-mul-le-mul-right, mul-le-mul-right, mul-pos, add-mul, div-mul-le-self, lt-div-mul-add, lt-of-mul-lt-mul-right, mul-lt-mul-of-pos-right}
 use native.Mathlib.Omega.{arith}
@@ -11,7 +11,6 @@ use lib.Ieee.Fits.{down-pos}
 use lib.Ieee.Exact.{HasValue}
 use lib.Ieee.Nearest.{div-same}
 use Rattle.colour.specs.Channel.{nearest, inByte, roundAway, product, multiplyByte, Multiplied}
-use Rattle.colour.proofs.Near.{Near}
 use Rattle.colour.proofs.Product.{near-product}
 
 -- ---- the rounded value by any fraction that x equals

@@ -2,16 +2,16 @@
 use mathlib.Core.Path.{_≡_, refl, sym, ap, _∙_, subst}
 use mathlib.Core.Bool.{Bool, true, false, not, _&&_, true≢false}
 use Prim.Native.Nat.{ℕ, zero, suc, _+_, _-_, _*_, _/_, _%_, _^_, _≤_, _<_, min}
-use native.Mathlib.Nat.{le-trans, le-of-eq, le-refl, le-suc, lt-of-lt-of-le, lt-of-le-of-lt, le-of-lt, le-mul-of-pos-right, not-le-of-lt, le-of-mul-le-mul-right, lt-of-mul-lt-mul-right, mul-lt-mul-of-pos-right, mul-one, one-mul, mul-assoc, mul-comm, mul-left-comm, mul-right-comm, mul-le-mul-right, mul-pos, add-mul, pow-suc, div-lt-iff-lt-mul, add-div-right, div-div-eq-div-mul, zero-mul}
+use native.Mathlib.Nat.{le-trans, le-of-eq, le-refl, le-suc, lt-of-lt-of-le, lt-of-le-of-lt, le-of-lt, le-mul-of-pos-right, not-le-of-lt, le-of-mul-le-mul-right, lt-of-mul-lt-mul-right, mul-lt-mul-of-pos-right, mul-one, mul-assoc, mul-comm, mul-right-comm, mul-le-mul-right, mul-pos, div-lt-iff-lt-mul, add-div-right, div-div-eq-div-mul}
 use native.Mathlib.Omega.{arith}
 use lib.Dec.{T, ltb, leb, eqb, lit<, lit≤, lt→ltb, ltb→lt, leb→le, nleb→lt, eqb→eq}
 use lib.IntN.{ℤ, pos, negsuc}
-use lib.Pow.{pow-add, pow-pos, pow-mono, pow-lt}
-use lib.Ieee.{Float, nan, inf, fin, Format, binary32, prec, emax, low, up, down, round, mul, lt, fits, toUnsigned, ofBits}
+use lib.Pow.{pow-add, pow-lt}
+use lib.Ieee.{Float, nan, inf, fin, binary32, up, down, mul, lt, fits, toUnsigned}
 use lib.Ieee.Fits.{and-l, and-r, up-pos, down-pos}
 use lib.Ieee.Exact.{HasValue, round-exact}
 use lib.Ieee.Nearest.{div-same}
-use Rattle.colour.specs.Channel.{nearest, inByte, roundAway}
+use Rattle.colour.specs.Channel.{inByte, roundAway}
 use Rattle.colour.proofs.Operations.{mul-value}
 
 -- ---- a float that fits is a multiple of 2 ^ -149

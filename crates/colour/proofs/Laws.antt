@@ -1,15 +1,11 @@
 -- Laws of the definitions of colour, for this crate and for callers. Assumes nothing.
-use mathlib.Core.Path.{_≡_, refl, sym, ap, _∙_}
-use mathlib.Core.Logic.{_⊎_, inl, inr}
-use mathlib.Core.Bool.{Bool, true, false, _||_}
-use Prim.Native.Nat.{ℕ, _+_, _-_, _*_, _/_, _≤_}
+use mathlib.Core.Path.{_≡_, refl}
+use Prim.Native.Nat.{ℕ, _+_, _-_, _/_, _≤_}
 use native.Mathlib.Omega.{arith}
-use lib.Dec.{eqb}
 use borrow.Author.Tests.{eq-eqb, ne-eqb}
 use Rattle.colour.specs.declared.RGBA.{RGBA}
-use Rattle.colour.specs.declared.RenderColors.{RenderColors}
 use Rattle.colour.specs.Channel.{nearest, blendByte, multiplyByte}
-use Rattle.colour.specs.Colour.{rgba, blendedAt, multiplied, colorForNumber}
+use Rattle.colour.specs.Colour.{rgba, blendedAt, multiplied}
 
 -- two colours are equal by their parts
 pub rgba-eq : {c d : RGBA} → c .r ≡ d .r → c .g ≡ d .g → c .b ≡ d .b → c .a ≡ d .a → c ≡ d

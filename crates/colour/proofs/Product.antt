@@ -1,10 +1,9 @@
 -- The value that `multiply_channel` rounds is near s * c * a / 65025. Assumes nothing.
-use mathlib.Core.Path.{_≡_, refl, sym, ap, _∙_, subst}
-use Prim.Native.Nat.{ℕ, _+_, _-_, _*_, _/_, _^_, _≤_, _<_}
-use native.Mathlib.Nat.{le-trans, le-of-eq, mul-le-mul, mul-assoc, mul-comm, mul-left-comm, mul-right-comm, le-of-mul-le-mul-right, mul-le-mul-right}
-use native.Mathlib.Omega.{arith}
+use mathlib.Core.Path.{refl}
+use Prim.Native.Nat.{ℕ, _-_, _*_, _≤_, _<_}
+use native.Mathlib.Nat.{le-trans, mul-le-mul}
 use lib.Dec.{lit<, lit≤}
-use lib.Ieee.{Float, binary32, mul, div}
+use lib.Ieee.{binary32, mul, div}
 use Rattle.colour.specs.Channel.{float, product}
 use Rattle.colour.proofs.Near.{Near}
 use Rattle.colour.proofs.Operations.{byte-value, near-whole, near-mul, near-div}

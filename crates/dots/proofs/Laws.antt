@@ -26,7 +26,7 @@ below a b = by-test a b (ltb a b) refl
 
 -- ---- bytes and dots
 
-length-tab : (n : ℕ) (f : ℕ → ℕ) → length (tab n f) ≡ n
+pub length-tab : (n : ℕ) (f : ℕ → ℕ) → length (tab n f) ≡ n
 unfolding tab
 length-tab zero f = refl
 length-tab (suc n) f = ap suc (length-tab n (λ k. f (suc k)))
@@ -294,7 +294,7 @@ within-then a b c i h k = by (place a b i) (place b c i)
     by (past u v) (past x y) = rw (within-high a c i y, within-high a b i v, within-high b c i y)
 
 -- the run of the one dot i
-within-one : (i j : ℕ) → within i (i + 1) j ≡ eqb j i
+pub within-one : (i j : ℕ) → within i (i + 1) j ≡ eqb j i
 within-one i j = by (place i (i + 1) j)
   where
     by : Place i (i + 1) j → within i (i + 1) j ≡ eqb j i

@@ -39,7 +39,7 @@ fn draw_few(buf: &mut [u8], at: usize, count: usize, multiply: bool, c: RGBA)
 
 // From this many dots on, making the tables, or the arrays of a blend, and going by them is sooner
 // done than the dots one by one.
-const TABLE_DOTS: usize = 280;
+pub const TABLE_DOTS: usize = 280;
 
 const LANE_DOTS: usize = 16;
 

@@ -11,6 +11,7 @@ pub use blend::blend_run;
 pub use blend::blend_terms;
 pub use dot::get_dot;
 pub use dot::set_dot;
+pub use draw::TABLE_DOTS;
 pub use draw::draw_run;
 pub use fill::fill_run;
 pub use multiply::multiply_run;

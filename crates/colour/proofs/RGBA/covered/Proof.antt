@@ -1,7 +1,5 @@
 -- `colour::RGBA::covered` meets its contract. Assumes nothing.
-use mathlib.Core.Path.{_≡_}
 use mathlib.Core.Logic.{⊎-elim}
-use native.Mathlib.Omega.{arith}
 use Rattle.colour.proofs.Laws.{blended-none, blended-full}
 use Rattle.colour.proofs.RGBA.covered.Statement.{statement}
 use Rattle.colour.proofs.RGBA.covered.Tie as tie

@@ -1,9 +1,7 @@
 -- `colour::RenderColors::color_for_number` meets its contract. Assumes nothing.
-use mathlib.Core.Path.{_≡_, refl}
+use mathlib.Core.Path.{refl}
 use mathlib.Core.Logic.{inl, inr, ⊎-elim}
-use native.Mathlib.Omega.{arith}
-use lib.Dec.{eqb}
-use borrow.Author.Tests.{eq-eqb, ne-eqb}
+use borrow.Author.Tests.{ne-eqb}
 use Rattle.colour.specs.Colour.{colorForNumber}
 use Rattle.colour.proofs.RenderColors.color_for_number.Statement.{statement}
 use Rattle.colour.proofs.RenderColors.color_for_number.Tie as tie

@@ -1,8 +1,7 @@
 -- `colour::channel::blend_channel` meets its contract. Assumes nothing.
 use native.Mathlib.Omega.{arith}
 use native.Mathlib.Nat.{mul-le-mul-right}
-use mathlib.Core.Path.{_≡_}
-use Prim.Native.Nat.{ℕ, _*_, _+_, _-_, _/_, _≤_}
+use Prim.Native.Nat.{_*_, _+_, _-_, _≤_}
 use Rattle.colour.specs.Channel.{blendByte}
 use Rattle.colour.proofs.Laws.{by-256}
 use borrow.Author.Needs.{needs}

@@ -1,9 +1,8 @@
 -- `colour::channel::multiply_channel` meets its contract. Assumes nothing.
 use mathlib.Core.Path.{_≡_, refl, sym, ap, _∙_, subst}
-use Prim.Native.Nat.{ℕ, _≤_}
+use Prim.Native.Nat.{ℕ}
 use native.Mathlib.Omega.{arith}
 use borrow.Author.Needs.{needs}
-use lib.IntN.{pos}
 use lib.Dec.{T}
 use lib.Ieee.{Float, binary32, mul, div, ofBits, ofInt}
 use Rattle.colour.specs.Channel.{float, product, inByte, roundAway, multiplyByte}

@@ -1,11 +1,11 @@
 -- `colour::channel::round_to_byte` meets its contract, by `Doubled`. Assumes nothing.
 use mathlib.Core.Path.{_≡_, refl, sym, ap, _∙_, subst}
-use Prim.Native.Nat.{ℕ, _+_, _/_, _<_}
+use Prim.Native.Nat.{ℕ, _+_, _/_}
 use native.Mathlib.Omega.{arith}
 use lib.IntN.{pos}
 use mathlib.Core.Bool.{false}
 use lib.Dec.{T}
-use lib.Ieee.{Float, fin, binary32, fits, mul, ofBits}
+use lib.Ieee.{Float, fin, binary32, mul, ofBits}
 use Rattle.colour.proofs.Doubled.{Rounds, rounds}
 use Rattle.colour.proofs.channel.round_to_byte.Statement.{statement}
 use Rattle.colour.proofs.channel.round_to_byte.Tie as tie

@@ -1,6 +1,5 @@
 -- `replay::hex::number_at` meets its contract. Assumes nothing.
 use Prim.Native.Nat.{_-_, _≤_, _^_, _<_}
-use native.Mathlib.Omega.{arith}
 use borrow.Author.Needs.{needs}
 use Rattle.replay.proofs.hex.number_at.Statement.{statement}
 use Rattle.replay.proofs.hex.number_at.Tie as tie

@@ -1,5 +1,4 @@
 -- `thermal::images::thermal_image_from_raster_bytes_single_color` meets its contract. Assumes nothing.
-use mathlib.Core.Path.{_≡_}
 use borrow.Author.Needs.{needs}
 use Rattle.thermal.proofs.images.thermal_image_from_raster_bytes_single_color.Statement.{
   statement,

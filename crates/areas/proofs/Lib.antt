@@ -1,0 +1,6 @@
+pub mod Laws
+mod Rows
+mod Pixels
+mod Flips
+mod Borders
+mod Examples

@@ -1,0 +1,35 @@
+-- `areas::put::put_row` meets its contract. Assumes nothing.
+use native.Mathlib.Omega.{arith}
+use borrow.Author.Needs.{needs}
+use mathlib.Core.Path.{_∙_}
+use Rattle.areas.proofs.Pixels.{row-missing, row-given}
+use Rattle.areas.proofs.put.put_row.Statement.{statement}
+use Rattle.areas.proofs.put.put_row.Tie as tie
+
+returns : tie.Need-returns
+returns c =
+    let a = c .before .before .before .args in
+    row-missing (a .multiply) (a .pixels .now) (a .n) (a .from) (a .at) (a .w) (a .buf .now) (c .if1 .taken)
+
+sub-smaller : tie.Need-sub-smaller
+sub-smaller c = omega arith
+
+smaller-requires : tie.Need-smaller-requires
+smaller-requires c κs = search needs
+
+draw-pixels-requires : tie.Need-draw-pixels-requires
+draw-pixels-requires c κs = omega arith
+
+same-length : tie.Need-same-length
+same-length c = omega arith
+
+returns-2 : tie.Need-returns-2
+returns-2 c =
+    let s = c .before .before .before .before in
+    let a = s .before .before .before .before .args in
+    c .before .before .draw-pixels .ensures ∙ row-given (a .multiply) (a .pixels .now) (a .n) (a .from) (a .at) (a .w) (a .buf .now) (s .smaller .ensures)
+
+pub put-row-spec : {M : Type 1} → statement M
+put-row-spec =
+    tie.close
+    (tie.spec returns sub-smaller smaller-requires draw-pixels-requires same-length returns-2)

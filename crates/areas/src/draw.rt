@@ -1,0 +1,119 @@
+// A colour drawn on an area, blending or multiplying.
+ghost use mathlib.Core.Path.{_≡_};
+ghost use Prim.Native.Nat.{_<_};
+ghost use lib.ListN.{length};
+ghost use Rattle.colour.specs.Colour.{blended, multiplied};
+ghost use Rattle.dots.specs.Dots.{drawn};
+ghost use Rattle.dots.specs.Tables.{lanes, factors, terms, multiplyTable};
+ghost use Rattle.areas.specs.Areas.{Fits, areaOn};
+use colour::RGBA;
+use dots::TABLE_DOTS;
+use dots::blend_factors;
+use dots::blend_run;
+use dots::blend_terms;
+use dots::draw_run;
+use dots::multiply_run;
+use dots::multiply_table;
+
+// Row by row, with nothing made beforehand.
+fn draw_rows(
+    buf: &mut [u8],
+    wide: usize,
+    x: usize,
+    y: usize,
+    w: usize,
+    h: usize,
+    c: RGBA,
+    multiply: bool,
+)
+    requires { ⌜ Fits wide x y w h (length (now buf)) ⌝ }
+    ensures { λ _. ⌜ now (buf .exit) ≡ areaOn wide x y w h (λ _ _ d. drawn multiply c d) (now (buf .entry)) ⌝ }
+{
+    let mut j = 0;
+    while j < h {
+        draw_run(buf, (y + j) * wide + x, w, multiply, c);
+        j += 1;
+    }
+}
+
+fn blend_rows(
+    buf: &mut [u8],
+    wide: usize,
+    x: usize,
+    y: usize,
+    w: usize,
+    h: usize,
+    c: RGBA,
+    m: &[u16; 64],
+    k: &[u16; 64],
+)
+    requires { ⌜ Fits wide x y w h (length (now buf)) × (0 < c .a) × (c .a < 255) ⌝ }
+    requires { ⌜ (now m ≡ lanes (factors c)) × (now k ≡ lanes (terms c)) ⌝ }
+    ensures { λ _. ⌜ now (buf .exit) ≡ areaOn wide x y w h (λ _ _ d. blended c d) (now (buf .entry)) ⌝ }
+{
+    let mut j = 0;
+    while j < h {
+        blend_run(buf, (y + j) * wide + x, w, c, m, k);
+        j += 1;
+    }
+}
+
+fn multiply_rows(
+    buf: &mut [u8],
+    wide: usize,
+    x: usize,
+    y: usize,
+    w: usize,
+    h: usize,
+    c: RGBA,
+    tr: &[u8; 256],
+    tg: &[u8; 256],
+    tb: &[u8; 256],
+)
+    requires { ⌜ Fits wide x y w h (length (now buf)) × (0 < c .a) ⌝ }
+    requires { ⌜ (now tr ≡ multiplyTable (c .r) (c .a)) × (now tg ≡ multiplyTable (c .g) (c .a)) × (now tb ≡ multiplyTable (c .b) (c .a)) ⌝ }
+    ensures { λ _. ⌜ now (buf .exit) ≡ areaOn wide x y w h (λ _ _ d. multiplied c d) (now (buf .entry)) ⌝ }
+{
+    let mut j = 0;
+    while j < h {
+        multiply_run(buf, (y + j) * wide + x, w, c, tr, tg, tb);
+        j += 1;
+    }
+}
+
+// What the colour needs is made once for the whole area.
+pub fn draw_area(
+    buf: &mut [u8],
+    wide: usize,
+    x: usize,
+    y: usize,
+    w: usize,
+    h: usize,
+    c: RGBA,
+    multiply: bool,
+)
+    requires { ⌜ Fits wide x y w h (length (now buf)) ⌝ }
+    ensures { λ _. ⌜ now (buf .exit) ≡ areaOn wide x y w h (λ _ _ d. drawn multiply c d) (now (buf .entry)) ⌝ }
+{
+    if c.a == RGBA::TRANSPARENT {
+        return;
+    }
+    if multiply {
+        if w * h < TABLE_DOTS {
+            draw_rows(buf, wide, x, y, w, h, c, multiply);
+            return;
+        }
+        let tr = multiply_table(c.r, c.a);
+        let tg = multiply_table(c.g, c.a);
+        let tb = multiply_table(c.b, c.a);
+        multiply_rows(buf, wide, x, y, w, h, c, &tr, &tg, &tb);
+        return;
+    }
+    if c.a == RGBA::OPAQUE {
+        draw_rows(buf, wide, x, y, w, h, c, multiply);
+        return;
+    }
+    let m = blend_factors(c);
+    let k = blend_terms(c);
+    blend_rows(buf, wide, x, y, w, h, c, &m, &k);
+}

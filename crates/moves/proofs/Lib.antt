@@ -1,0 +1,7 @@
+pub mod Laws
+pub mod Turns
+mod Bytes
+mod Runs
+mod Rows
+mod Rects
+mod Strips

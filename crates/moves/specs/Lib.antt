@@ -1,0 +1,3 @@
+-- What the contracts of moves say.
+pub mod Parts
+pub mod Moves

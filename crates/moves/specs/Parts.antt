@@ -1,0 +1,15 @@
+-- Parts of a buffer that a loop has written.
+use mathlib.Core.List.{List}
+use mathlib.Core.Bool.{Bool, _&&_}
+use Prim.Native.Nat.{ℕ, _/_, _%_}
+use lib.ListN.{length, getD}
+use Rattle.colour.specs.Choice.{if_then_else_}
+use Rattle.dots.specs.Dots.{tab, within}
+
+-- the bytes that p picks become F's, and every other is as it was
+unfoldable pub over : (ℕ → Bool) → (ℕ → ℕ) → List ℕ → List ℕ
+over p F l = tab (length l) (λ j. if p j then F j else getD l j 0)
+
+-- dot i of a picture `wide` dots wide is in the columns from c to c' and the rows from r to r'
+unfoldable pub inRect : ℕ → ℕ → ℕ → ℕ → ℕ → ℕ → Bool
+inRect wide c c' r r' i = within c c' (i % wide) && within r r' (i / wide)

@@ -1,0 +1,6 @@
+// How far a picture is turned, clockwise.
+pub enum Turn {
+    Quarter,
+    Half,
+    ThreeQuarters,
+}
