@@ -1,4 +1,5 @@
 mod Rounding
+mod Sides
 mod Near
 mod Operations
 mod Product
