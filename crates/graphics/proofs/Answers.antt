@@ -1,14 +1,13 @@
 -- What an entry's definitions come to, refused and done. Assumes nothing.
-use mathlib.Core.Path.{_≡_, refl, sym, ap, _∙_}
+use mathlib.Core.Path.{_≡_, refl, ap}
 use mathlib.Core.Bool.{Bool, true, false}
 use mathlib.Core.List.{List}
 use Prim.Native.Nat.{ℕ, _*_, _≤_, _<_}
 use native.Mathlib.Omega.{arith}
-use lib.Dec.{eqb, ltb}
+use lib.Dec.{eqb}
 use borrow.Author.Tests.{eq-eqb, ne-eqb, ltb-false, eqb-false}
 use Rattle.numbers.specs.Numbers.{done}
 use Rattle.colour.specs.declared.RGBA.{RGBA}
-use Rattle.graphics.specs.declared.Decoded.{Decoded}
 use Rattle.graphics.specs.declared.formats.Format.{Format}
 use Rattle.graphics.specs.Formats.{bytesOf, rasterOf}
 use Rattle.graphics.specs.Decoding.{factor, isTight, answer, output}

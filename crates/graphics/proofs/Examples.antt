@@ -7,8 +7,6 @@ use lib.Ieee.{ofInt, mul, div}
 use Rattle.colour.specs.declared.RGBA.{RGBA}
 use Rattle.colour.specs.Channel.{blendByte, product, roundAway, multiplyByte}
 use Rattle.colour.specs.Colour.{rgba, withAlpha}
-use Rattle.graphics.specs.declared.Decoded.{Decoded}
-use Rattle.graphics.specs.declared.formats.Format.{Format}
 use Rattle.graphics.specs.declared.formats.Format.the-variants.{Bits, Columns}
 use Rattle.graphics.specs.Formats.{bitAlpha, alphaOf, bytesOf}
 use Rattle.graphics.specs.Decoding.{factor, isLarge, isTight, refusal, answer, decoded}

@@ -1,5 +1,5 @@
 -- Layers: where each lies in the data, what is drawn of it, and what layers make together. Assumes nothing.
-use mathlib.Core.Path.{_≡_, refl, sym, ap, _∙_}
+use mathlib.Core.Path.{_≡_, refl, ap, _∙_}
 use mathlib.Core.Bool.{Bool, true, false}
 use mathlib.Core.List.{List}
 use Prim.Native.Nat.{ℕ, zero, suc, _+_, _-_, _*_, _≤_, _<_}
@@ -12,11 +12,10 @@ use borrow.Author.Tests.{lt-ltb}
 use Rattle.colour.specs.declared.RGBA.{RGBA}
 use Rattle.colour.specs.declared.RenderColors.{RenderColors}
 use Rattle.colour.specs.Colour.{colorForNumber, blended}
-use Rattle.dots.specs.Dots.{change, within}
+use Rattle.dots.specs.Dots.{within}
 use Rattle.dots.proofs.Laws.{change-over, length-change}
 use Rattle.graphics.specs.declared.scale.Source.{Source}
 use Rattle.graphics.specs.Formats.{rasterOf}
-use Rattle.graphics.specs.Decoding.{pixelOf}
 use Rattle.graphics.specs.Layers.{layerBytes, layerStart, layerColor, layerData, layerPixel, mergedPixel}
 use Rattle.graphics.specs.Steps.{Sound, Layered, inColor, landed, sourcePixel, pictureOn}
 

@@ -1,4 +1,5 @@
 mod Places
+mod Unpacking
 mod Scaling
 mod Codes
 mod Answers

@@ -1,12 +1,11 @@
 -- The two loops that write an image: over the dots of a row, and over the rows. Each has a start, a next and an end. Assumes nothing.
 use mathlib.Core.Path.{_≡_, refl, sym, ap, _∙_}
-use mathlib.Core.Bool.{Bool, true, false, not, _&&_, true≢false}
+use mathlib.Core.Bool.{Bool, true, false, true≢false}
 use mathlib.Core.List.{List}
 use Prim.Native.Nat.{ℕ, _+_, _-_, _*_, _/_, _%_, _≤_, _<_}
-use native.Mathlib.Nat.{div-add-mod', mod-lt, div-eq-of-lt-le, le-trans, le-mul-of-pos-right, div-lt-iff-lt-mul, mul-le-mul-right, mul-comm, add-mul, zero-mul, add-zero}
+use native.Mathlib.Nat.{div-add-mod', mod-lt, div-eq-of-lt-le, le-trans, le-mul-of-pos-right, div-lt-iff-lt-mul, mul-le-mul-right, mul-comm, add-mul, zero-mul, add-zero, mul-one, div-one}
 use native.Mathlib.Omega.{arith}
 use lib.ListN.{length}
-use lib.Dec.{eqb}
 use borrow.Author.Tests.{eqb-false, not-true}
 use Rattle.numbers.specs.Numbers.{limit}
 use Rattle.colour.specs.declared.RGBA.{RGBA}
@@ -15,9 +14,12 @@ use Rattle.dots.specs.Dots.{dotAt, change, within}
 use Rattle.dots.proofs.Laws.{run-none, run-more, length-change, change-by, change-picked, within-yes, within-true}
 use Rattle.dots.proofs.Blocks.{in-block, in-row}
 use Rattle.graphics.specs.declared.scale.Source.{Source}
-use Rattle.graphics.specs.Formats.{alphaOf, bytesOf}
+use Rattle.graphics.specs.declared.formats.Format.the-variants.{Bits}
+use Rattle.graphics.specs.Formats.{rowBytes, alphaOf, bytesOf}
 use Rattle.graphics.specs.Decoding.{pixelOf}
 use Rattle.graphics.specs.Steps.{Sound, Above, repeated, landed, sourcePixel, rowFrom, pictureOn}
+use Rattle.graphics.proofs.Places.{line-fits, row-in-data}
+use Rattle.graphics.proofs.Unpacking.{bitsDot}
 
 -- ---- what a sound source gives to read a dot
 
@@ -89,12 +91,9 @@ module _ (W H : ℕ) (blend : Bool) (pixel : ℕ → ℕ → RGBA) (l : List ℕ
   pub down-start : Down 0 0 l
   down-start = record { place = rw zero-mul; upto = omega arith; same = refl; sofar = run-none 0 pictureDot l }
 
-  -- row j lies in the picture, and in the output
-  row-fits : (j : ℕ) → j < H → j * W + W ≤ W * H
-  row-fits j h = omega (arith, mul-le-mul-right {m = j + 1} {n = H} W (omega arith), add-mul j 1 W, mul-comm W H)
-
+  -- row j lies in the output
   pub down-room : {j at : ℕ} {out : List ℕ} → Down j at out → j < H → W * H * 4 ≤ length l → (at + W) * 4 ≤ length out
-  down-room {j} a h r = omega (arith, a .place, a .same, row-fits j h)
+  down-room {j} a h r = omega (arith, a .place, a .same, line-fits W H j h)
 
   pub down-next : {j at : ℕ} {out out' : List ℕ} → Down j at out → j < H → out' ≡ rowFrom at W blend pixel j out → Down (j + 1) (at + W) out'
   unfolding rowFrom
@@ -172,3 +171,13 @@ pub repeat-is-row : (s : Source) (bytes : List ℕ) (blend : Bool) (at j : ℕ) 
 unfolding rowFrom landed
 repeat-is-row s bytes blend at j out a e em =
     em ∙ rw (is-repeated j (s .fy) blend e .0) (change-by _ _ _ out (λ i w. let b = within-true at (at + s .w * s .fx) i w in a .dots e i (b .0) (b .1)))
+
+-- ---- a row of bits that are not stretched
+
+pub bits-in-data : (s : Source) {n j row : ℕ} → Sound s n → j < s .h * s .fy → s .format ≡ Bits → row ≡ rowBytes (s .w) → j / s .fy * row + rowBytes (s .w) ≤ n
+bits-in-data s o hj e er = rw er (row-in-data (s .w) (s .h) _ e (div-lt-iff-lt-mul (o .fy) .1 hj) (o .bytes))
+
+pub bits-is-row : (s : Source) (bytes : List ℕ) (blend : Bool) (at j : ℕ) (out : List ℕ) → (s .format ≡ Bits) × (s .fx ≡ 1) → {row : ℕ} → row ≡ rowBytes (s .w)
+    → {m : List ℕ} → m ≡ change (within at (at + s .w)) (bitsDot bytes at (j / s .fy * row) (s .color) blend) out → m ≡ rowFrom at (s .w * s .fx) blend (sourcePixel s bytes) j out
+unfolding rowFrom sourcePixel pixelOf alphaOf
+bits-is-row s bytes blend at j out e er em = em ∙ simp (er, e .0, e .1, mul-one, div-one)

@@ -6,7 +6,7 @@ use lib.ListN.{length}
 use lib.Dec.{ltb, eqb}
 use Rattle.numbers.specs.Numbers.{limit, done, noRoom, tooLarge, wrongLength}
 use Rattle.colour.specs.Choice.{if_then_else_}
-use Rattle.colour.specs.Colour.{withAlpha, blended}
+use Rattle.colour.specs.Colour.{withAlpha}
 use Rattle.colour.specs.declared.RGBA.{RGBA}
 use Rattle.dots.specs.Dots.{change, within}
 use Rattle.graphics.specs.declared.formats.Format.{Format}

@@ -6,11 +6,11 @@ use mathlib.Core.List.{List}
 use lib.Dec.{eqb}
 use Rattle.numbers.specs.Numbers.{limit}
 use Rattle.colour.specs.Choice.{if_then_else_}
-use Rattle.colour.specs.Colour.{withAlpha, blended}
+use Rattle.colour.specs.Colour.{blended}
 use Rattle.colour.specs.declared.RGBA.{RGBA}
 use Rattle.dots.specs.Dots.{dotAt, change, within}
 use Rattle.graphics.specs.declared.scale.Source.{Source}
-use Rattle.graphics.specs.Formats.{alphaOf, bytesOf, rasterOf}
+use Rattle.graphics.specs.Formats.{bytesOf, rasterOf}
 use Rattle.graphics.specs.Decoding.{pixelOf}
 use Rattle.graphics.specs.Layers.{layerBytes}
 

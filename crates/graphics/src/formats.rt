@@ -20,7 +20,7 @@ pub fn raster_of(process_as_bits: bool) -> Format
     Format::Alphas
 }
 
-fn row_bytes(w: usize) -> usize
+pub fn row_bytes(w: usize) -> usize
     requires { ⌜ w ≤ limit ⌝ }
     ensures { λ r. ⌜ r ≡ rowBytes w ⌝ }
 {

@@ -1,11 +1,14 @@
 // The one way from a source to dots: each source dot becomes a block of dots on the output.
 ghost use mathlib.Core.Path.{_≡_};
+ghost use mathlib.Core.Bool.{true};
 ghost use Prim.Native.Nat.{_+_, _-_, _*_, _/_, _≤_, _<_};
 ghost use lib.ListN.{length};
 ghost use Rattle.dots.specs.Dots.{dotAt, setDot, change, within};
 ghost use Rattle.graphics.specs.Steps.{Sound, inColor, repeated, landed, sourcePixel, Above, rowFrom, pictureOn};
+use super::bits::unpack_row;
 use super::formats::Format;
 use super::formats::alpha_at;
+use super::formats::row_bytes;
 use colour::RGBA;
 use dots::draw_run;
 use dots::fill_run;
@@ -105,6 +108,18 @@ fn repeats(j: usize, fy: usize, blend: bool) -> bool
     j % fy != 0
 }
 
+// Bits that are not stretched have a way of their own, which is sooner done.
+fn plain_bits(source: Source) -> bool
+    ensures { λ r. ⌜ (r ≡ true → (source .format ≡ Format.Bits) × (source .fx ≡ 1)) ⌝ }
+{
+    let format = source.format;
+    match format {
+        Format::Bits => source.fx == 1,
+        Format::Alphas => false,
+        Format::Columns => false,
+    }
+}
+
 fn draw_row(out: &mut [u8], at: usize, data: &[u8], source: Source, j: usize, blend: bool)
     requires { ⌜ Sound source (length (now «data»)) ⌝ }
     requires { ⌜ (j < source .h * source .fy) × ((at + source .w * source .fx) * 4 ≤ length (now out)) ⌝ }
@@ -114,6 +129,11 @@ fn draw_row(out: &mut [u8], at: usize, data: &[u8], source: Source, j: usize, bl
     if repeats(j, source.fy, blend) {
         let wide = source.w * source.fx;
         repeat_row(out, at, wide);
+        return;
+    }
+    if plain_bits(source) {
+        let from = j / source.fy * row_bytes(source.w);
+        unpack_row(out, at, data, from, source.w, source.color, blend);
         return;
     }
     scale_pixels(out, at, data, source, j, blend);

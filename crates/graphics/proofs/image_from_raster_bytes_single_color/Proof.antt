@@ -1,5 +1,4 @@
 -- `graphics::image_from_raster_bytes_single_color` meets its contract. Assumes nothing.
-use mathlib.Core.Path.{_≡_}
 use borrow.Author.Needs.{needs}
 use Rattle.graphics.proofs.image_from_raster_bytes_single_color.Statement.{statement}
 use Rattle.graphics.proofs.image_from_raster_bytes_single_color.Tie as tie

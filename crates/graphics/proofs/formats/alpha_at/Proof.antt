@@ -1,11 +1,10 @@
 -- `graphics::formats::alpha_at` meets its contract. Assumes nothing.
-use mathlib.Core.Path.{_≡_, refl, sym, ap, _∙_}
-use Prim.Native.Nat.{ℕ, _+_, _*_, _/_, _<_}
+use mathlib.Core.Path.{refl, _∙_}
+use Prim.Native.Nat.{_+_, _*_, _/_, _<_}
 use native.Mathlib.Omega.{arith}
 use lib.ListN.{length}
 use denote.Ref.{now}
-use Rattle.graphics.specs.declared.formats.Format.{Format}
-use Rattle.graphics.specs.Formats.{bitAlpha, alphaOf}
+use Rattle.graphics.specs.Formats.{alphaOf}
 use Rattle.graphics.proofs.Places.{in-told}
 use borrow.Author.Needs.{needs}
 use Rattle.graphics.proofs.formats.alpha_at.Statement.{statement}

@@ -1,5 +1,5 @@
 -- `graphics::refusals::bytes_of` meets its contract. Assumes nothing.
-use mathlib.Core.Path.{_≡_, refl}
+use mathlib.Core.Path.{refl}
 use native.Mathlib.Omega.{arith}
 use Rattle.graphics.specs.Formats.{rowBytes, bytesOf}
 use Rattle.graphics.proofs.Codes.{area}

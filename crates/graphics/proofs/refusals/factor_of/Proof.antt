@@ -1,5 +1,5 @@
 -- `graphics::refusals::factor_of` meets its contract. Assumes nothing.
-use mathlib.Core.Path.{_≡_, refl}
+use mathlib.Core.Path.{refl}
 use borrow.Author.Tests.{eq-eqb, ne-eqb}
 use Rattle.graphics.specs.Decoding.{factor}
 use Rattle.graphics.proofs.refusals.factor_of.Statement.{statement}

@@ -2,7 +2,7 @@
 use mathlib.Core.Path.{_≡_, sym, _∙_}
 use mathlib.Core.Bool.{false}
 use Rattle.graphics.specs.Decoding.{isLarge}
-use Rattle.graphics.proofs.Codes.{Small, small, single-large, single-length, single-rest}
+use Rattle.graphics.proofs.Codes.{small, single-large, single-length, single-rest}
 use borrow.Author.Needs.{needs}
 use Rattle.graphics.proofs.refusals.refusal_of.Statement.{statement}
 use Rattle.graphics.proofs.refusals.refusal_of.Tie as tie

@@ -1,5 +1,5 @@
 -- `graphics::scale::land_dot` meets its contract. Assumes nothing.
-use mathlib.Core.Path.{_≡_, refl, _∙_}
+use mathlib.Core.Path.{refl, _∙_}
 use Rattle.graphics.specs.Steps.{landed}
 use borrow.Author.Needs.{needs}
 use Rattle.graphics.proofs.scale.land_dot.Statement.{statement}

@@ -1,5 +1,5 @@
 -- `graphics::scale::land_run` meets its contract. Assumes nothing.
-use mathlib.Core.Path.{_≡_, refl}
+use mathlib.Core.Path.{refl}
 use native.Mathlib.Omega.{arith}
 use Rattle.dots.specs.Dots.{drawn}
 use Rattle.dots.proofs.Laws.{run-none, run-turn}

@@ -1,5 +1,5 @@
 -- `graphics::scale::repeats` meets its contract. Assumes nothing.
-use mathlib.Core.Path.{_≡_, refl}
+use mathlib.Core.Path.{refl}
 use Rattle.graphics.specs.Steps.{repeated}
 use borrow.Author.Needs.{needs}
 use Rattle.graphics.proofs.scale.repeats.Statement.{statement}
