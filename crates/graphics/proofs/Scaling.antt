@@ -10,8 +10,8 @@ use borrow.Author.Tests.{eqb-false, not-true}
 use Rattle.numbers.specs.Numbers.{limit}
 use Rattle.colour.specs.declared.RGBA.{RGBA}
 use Rattle.colour.specs.Colour.{withAlpha}
-use Rattle.dots.specs.Dots.{dotAt, change, within}
-use Rattle.dots.proofs.Laws.{run-none, run-more, length-change, change-by, change-picked, within-yes, within-true}
+use Rattle.dots.specs.Dots.{dotAt, setDot, change, within}
+use Rattle.dots.proofs.Laws.{run-none, run-turn, run-more, length-change, change-by, change-picked, within-yes, within-true}
 use Rattle.dots.proofs.Blocks.{in-block, in-row}
 use Rattle.graphics.specs.declared.scale.Source.{Source}
 use Rattle.graphics.specs.declared.formats.Format.the-variants.{Bits}
@@ -69,12 +69,20 @@ module _ (s : Source) (bytes : List ℕ) (blend : Bool) (at j : ℕ) (l : List �
             rw (ep, ea, q)) (a .sofar) eo;
       }
 
+  pub across-at : {x i k : ℕ} {out : List ℕ} → i ≡ k → Across x i out → Across x k out
+  across-at e a = rw e at a
+
   pub across-end : {x i : ℕ} {out : List ℕ} → Across x i out → s .w ≤ x → out ≡ rowFrom at (s .w * s .fx) blend (sourcePixel s bytes) j l
   unfolding rowFrom
   across-end {x} {i} a h =
       let e : x ≡ s .w = omega (arith, a .upto) in
       let p : i ≡ at + s .w * s .fx = a .place ∙ rw e in
       a .sofar ∙ rw p
+
+-- one dot is a block of one
+pub dot-block : (fx i : ℕ) (blend : Bool) (pixel : RGBA) (out : List ℕ) → fx ≡ 1 → i * 4 + 4 ≤ length out
+    → {m : List ℕ} → m ≡ setDot out i (landed blend pixel (dotAt out i)) → m ≡ change (within i (i + fx)) (λ _ d. landed blend pixel d) out
+dot-block fx i blend pixel out e r em = rw e (run-turn i i _ out (omega arith) r (run-none i _ out) refl em)
 
 -- ---- a picture of W by H dots: j rows are written, up to dot `at`
 

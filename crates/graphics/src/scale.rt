@@ -46,20 +46,36 @@ fn land_dot(out: &mut [u8], i: usize, pixel: RGBA, blend: bool)
     set_dot(out, i, pixel);
 }
 
-// A run of one dot, as most are, is no run.
 fn land_run(out: &mut [u8], at: usize, count: usize, pixel: RGBA, blend: bool)
     requires { ⌜ (at + count) * 4 ≤ length (now out) ⌝ }
     ensures { λ _. ⌜ now (out .exit) ≡ change (within at (at + count)) (λ _ d. landed blend pixel d) (now (out .entry)) ⌝ }
 {
-    if count == 1 {
-        land_dot(out, at, pixel, blend);
-        return;
-    }
     if blend {
         draw_run(out, at, count, false, pixel);
         return;
     }
     fill_run(out, at, count, pixel);
+}
+
+// A row that is not stretched.
+fn plain_pixels(out: &mut [u8], at: usize, data: &[u8], source: Source, j: usize, blend: bool)
+    requires { ⌜ Sound source (length (now «data»)) × (source .fx ≡ 1) ⌝ }
+    requires { ⌜ (j < source .h * source .fy) × ((at + source .w * source .fx) * 4 ≤ length (now out)) ⌝ }
+    ensures { λ _. ⌜ now (out .exit) ≡ rowFrom at (source .w * source .fx) blend (sourcePixel source (now («data» .entry))) j (now (out .entry)) ⌝ }
+{
+    let format = source.format;
+    let w = source.w;
+    let h = source.h;
+    let y = j / source.fy;
+    let mut x = 0;
+    let mut i = at;
+    while x < w {
+        let alpha = alpha_at(data, format, w, h, x, y);
+        let pixel = source.color.with_alpha(alpha);
+        land_dot(out, i, pixel, blend);
+        i += 1;
+        x += 1;
+    }
 }
 
 fn scale_pixels(out: &mut [u8], at: usize, data: &[u8], source: Source, j: usize, blend: bool)
@@ -134,6 +150,10 @@ fn draw_row(out: &mut [u8], at: usize, data: &[u8], source: Source, j: usize, bl
     if plain_bits(source) {
         let from = j / source.fy * row_bytes(source.w);
         unpack_row(out, at, data, from, source.w, source.color, blend);
+        return;
+    }
+    if source.fx == 1 {
+        plain_pixels(out, at, data, source, j, blend);
         return;
     }
     scale_pixels(out, at, data, source, j, blend);

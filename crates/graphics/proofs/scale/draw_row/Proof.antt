@@ -80,14 +80,26 @@ returns-2 c =
     let s = t .before .before .before .before .before .before .args in
     bits-is-row (s .source) _ _ _ _ _ (plain t) (b .row-bytes .ensures) (u .unpack-row .ensures)
 
-scale-pixels-requires : tie.Need-scale-pixels-requires
-scale-pixels-requires c κs = let s = c .before .before .before .before .before .before .before in (s .pre .0, s .pre .1 .0)
+plain-pixels-requires : tie.Need-plain-pixels-requires
+plain-pixels-requires c κs =
+    let t = c .before in
+    let s = t .before .before .before .before .before .before .before .before in
+    ((s .pre .0, t .if3 .taken), s .pre .1 .0)
 
 same-length-3 : tie.Need-same-length-3
 same-length-3 c = search needs
 
 returns-3 : tie.Need-returns-3
-returns-3 c = c .before .before .scale-pixels .ensures
+returns-3 c = c .before .before .plain-pixels .ensures
+
+scale-pixels-requires : tie.Need-scale-pixels-requires
+scale-pixels-requires c κs = let s = c .before .before .before .before .before .before .before .before .before in (s .pre .0, s .pre .1 .0)
+
+same-length-4 : tie.Need-same-length-4
+same-length-4 c = search needs
+
+returns-4 : tie.Need-returns-4
+returns-4 c = c .before .before .scale-pixels .ensures
 
 pub draw-row-spec : {M : Type 1} → statement M
 draw-row-spec =
@@ -105,6 +117,9 @@ draw-row-spec =
     unpack-row-requires
     same-length-2
     returns-2
-    scale-pixels-requires
+    plain-pixels-requires
     same-length-3
-    returns-3)
+    returns-3
+    scale-pixels-requires
+    same-length-4
+    returns-4)
