@@ -4,3 +4,4 @@ mod Pixels
 mod Flips
 mod Borders
 mod Examples
+mod Unique

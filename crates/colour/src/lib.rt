@@ -53,6 +53,7 @@ impl RGBA {
         RGBA {
             r: self.r,
             g: self.g,
+            // Blue takes green's value, as in the Rust: mending it would change every picture.
             b: self.g,
             a,
         }

@@ -1,9 +1,10 @@
--- Each entry's contract leaves one answer and one content of the output. Assumes nothing.
+-- Each public function's contract leaves one answer and one content of the output. Assumes nothing.
 use denote.Ref.{now}
 use Rattle.colour.proofs.OneAnswer.{OneAnswer, OneContent, both}
 use Rattle.graphics.proofs.image_from_raster_bytes_single_color.Reads as raster
 use Rattle.graphics.proofs.image_from_column_bytes_single_color.Reads as column
 use Rattle.graphics.proofs.image_from_raster_bytes_multi_color.Reads as layers
+use Rattle.graphics.proofs.scale.Source.in_color.Reads as in-color
 
 raster-one : OneAnswer raster.Post
 raster-one k a x y e f p q = both (p .0) (q .0)
@@ -22,3 +23,6 @@ layers-one k a x y e f p q = both (p .0) (q .0)
 
 layers-output : OneContent layers.Post (λ k e. now (e .1 .1 .1 .1 .1 .1 .1 .1 .0))
 layers-output k a x y e f p q = both (p .1) (q .1)
+
+in-color-one : OneAnswer in-color.Post
+in-color-one k a x y e f p q = both p q

@@ -5,3 +5,4 @@ mod Runs
 mod Rows
 mod Rects
 mod Strips
+mod Unique
