@@ -186,10 +186,14 @@ impl Lent {
             &mut ours[self.start..self.start + 4 * dots.len() + self.tail],
             color,
         );
-        let rust: Option<Vec<u32>> = rust.iter().copied().collect();
-        let rust = rust.map(|dots| self.memory(&dots));
-        operation.case(rust.as_deref(), &ours[..], |rust, ours| {
-            self.first_difference(dots, color, rust, ours)
+        let memory: Option<Vec<u32>> = rust.iter().copied().collect();
+        let memory = memory.map(|dots| self.memory(&dots));
+        operation.case(memory.as_deref(), &ours[..], |memory, ours| {
+            let at = match memory {
+                Some(memory) => (0..ours.len()).find(|&i| memory[i] != ours[i]).unwrap(),
+                None => self.start + 4 * rust.iter().position(Option::is_none).unwrap(),
+            };
+            self.difference_at(at, dots, color, rust, ours)
         });
     }
 
@@ -201,8 +205,14 @@ impl Lent {
         bytes
     }
 
-    fn first_difference(&self, dots: &[u32], color: u32, rust: &[u8], ours: &[u8]) -> String {
-        let at = (0..rust.len()).find(|&i| rust[i] != ours[i]).unwrap();
+    fn difference_at(
+        &self,
+        at: usize,
+        dots: &[u32],
+        color: u32,
+        rust: &[Option<u32>],
+        ours: &[u8],
+    ) -> String {
         let input = format!(
             "{} dots and {} bytes, color {}",
             dots.len(),
@@ -217,19 +227,14 @@ impl Lent {
             return format!("{input}: the byte {} after them changes", at - dots_end);
         }
         let i = (at - self.start) / 4;
-        let dot_of = |bytes: &[u8]| {
-            let from = self.start + 4 * i;
-            u32::from_le_bytes(bytes[from..from + 4].try_into().unwrap())
-        };
+        let from = self.start + 4 * i;
+        let dot = u32::from_le_bytes(ours[from..from + 4].try_into().unwrap());
         let input = format!("{input}, at {i} dot {}", hex(dots[i]));
-        answers(input, &dot_of(rust), &dot_of(ours))
+        answers(input, rust[i].as_ref(), &dot)
     }
 }
 
-fn answers(input: String, rust: &u32, ours: &u32) -> String {
-    format!(
-        "{input}: the Rust gives {}, this library {}",
-        hex(*rust),
-        hex(*ours)
-    )
+fn answers(input: String, rust: Option<&u32>, ours: &u32) -> String {
+    let rust = rust.map_or("stops".into(), |&rust| format!("gives {}", hex(rust)));
+    format!("{input}: the Rust {rust}, this library gives {}", hex(*ours))
 }

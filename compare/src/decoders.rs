@@ -8,17 +8,21 @@ use cases::Case;
 use oracle::colour::hex;
 use oracle::decoders::{decode, Answer, Input, Kind};
 use oracle::random::Random;
-use oracle::rules::{self, DONE, NO_ROOM, TOO_LARGE};
+use oracle::rules::{self, DONE, NO_ROOM, TOO_LARGE, WRONG_LENGTH};
 
-/// Images of more dots are not asked of the original, which would take gigabytes for some.
+/// Images of more dots that are refused are not asked of the original, which would take gigabytes
+/// for some.
 const MOST_DOTS: u64 = 1 << 19;
+
+/// As many bytes as the largest image takes, and more than those beside it.
+const MOST_MEMORY: usize = 4 * cases::LARGEST_DOTS + 4096;
 
 /// Bytes before and after the lent ones.
 const BESIDE: usize = 32;
 
 pub fn compare(report: &mut Report) {
     let mut random = Random::new(2);
-    let mut noise = vec![0; 4 * MOST_DOTS as usize + 4096];
+    let mut noise = vec![0; MOST_MEMORY];
     noise.fill_with(|| random.u8());
     for kind in Kind::ALL {
         let mut judge = Judge {
@@ -53,19 +57,20 @@ impl Judge<'_> {
         let due = rules::due(&case.input, case.lent);
         let (w, h) = rules::stretched(&case.input);
         // A size above the limit is decided before `w * h` is worked out.
-        let rust = if due == TOO_LARGE || w * h > MOST_DOTS {
-            None
+        let rust = if due == TOO_LARGE || due != DONE && w * h > MOST_DOTS {
+            Rust::NotCalled
         } else {
-            decode(&case.input)
+            decode(&case.input).map_or(Rust::Stops, Rust::Answers)
         };
 
         let start = BESIDE + case.shift;
         let before = &self.noise[..start + case.lent + BESIDE];
         let mut memory = before.to_vec();
+        let data = case.input.data.clone();
         let ours = boundary::decode(&case.input, &mut memory[start..start + case.lent]);
 
-        let outside = due == NO_ROOM || rust.is_none();
-        let difference = match expected(due, case.lent, rust.as_ref()) {
+        let outside = due == NO_ROOM || !matches!(rust, Rust::Answers(_));
+        let difference = match expected(due, &case, &rust) {
             Ok((expected, dots)) => {
                 let mut after = before.to_vec();
                 after[start..start + dots.len()].copy_from_slice(dots);
@@ -73,6 +78,8 @@ impl Judge<'_> {
                     Some(format!("{} expected, {} given", text(expected), text(ours)))
                 } else if memory != after {
                     Some(first_difference(&memory, &after, start, case.lent, dots))
+                } else if case.input.data != data {
+                    Some("the data changes".into())
                 } else {
                     None
                 }
@@ -85,22 +92,32 @@ impl Judge<'_> {
     }
 }
 
+enum Rust {
+    NotCalled,
+    Stops,
+    Answers(Answer),
+}
+
 /// What a call has to give, and the dots it has to write. The original and the scope have to agree
-/// on it where the original has an answer.
-fn expected(due: u8, lent: usize, rust: Option<&Answer>) -> Result<(Decoded, &[u8]), String> {
+/// on it where the original is called.
+fn expected<'a>(due: u8, case: &Case, rust: &'a Rust) -> Result<(Decoded, &'a [u8]), String> {
+    let lent = case.lent;
     let refusal = Decoded {
         number: due,
         w: 0,
         h: 0,
     };
     match rust {
-        None if due != DONE => Ok((refusal, &[])),
-        None => Err("the Rust has no answer, the scope asks for an image".into()),
-        Some(Answer::Refused(number)) if *number == due => Ok((refusal, &[])),
-        Some(Answer::Refused(number)) => Err(format!(
+        Rust::NotCalled if due != DONE => Ok((refusal, &[])),
+        Rust::NotCalled => Err("the Rust is not called, the scope asks for an image".into()),
+        Rust::Stops if due == WRONG_LENGTH && is_short_column(&case.input) => Ok((refusal, &[])),
+        Rust::Stops => Err(format!("the Rust stops, the scope asks for {due}")),
+        Rust::Answers(Answer::Refused(number)) if *number == due => Ok((refusal, &[])),
+        Rust::Answers(Answer::Refused(number)) => Err(format!(
             "the Rust refuses with {number}, the scope asks for {due}"
         )),
-        Some(&Answer::Image { w, h, ref dots }) => {
+        Rust::Answers(Answer::Image { w, h, dots }) => {
+            let (w, h) = (*w, *h);
             let fits = dots.len() <= lent && dots.len() as u64 == 4 * u64::from(w) * u64::from(h);
             match due {
                 DONE if fits => Ok((Decoded { number: DONE, w, h }, dots)),
@@ -111,6 +128,13 @@ fn expected(due: u8, lent: usize, rust: Option<&Answer>) -> Result<(Decoded, &[u
             }
         }
     }
+}
+
+/// The original takes a column's bytes without a test of their number, so that it stops at the
+/// first that lacks.
+fn is_short_column(input: &Input) -> bool {
+    let given = input.data.len() as u64;
+    input.kind == Kind::Column && rules::data_length(input).is_some_and(|right| given < right)
 }
 
 fn text(decoded: Decoded) -> String {

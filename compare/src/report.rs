@@ -14,7 +14,6 @@ pub struct Operation {
     name: String,
     cases: u64,
     differences: u64,
-    outside: u64,
 }
 
 impl Operation {
@@ -23,24 +22,18 @@ impl Operation {
             name: name.into(),
             cases: 0,
             differences: 0,
-            outside: 0,
         }
     }
 
-    /// Counts a case. `rust` is nothing where the original stops: that input is outside the
-    /// domain, and says nothing of this library.
+    /// Counts a case. `rust` is nothing where the original stops, which no answer is the same as.
     pub fn case<T: PartialEq + ?Sized>(
         &mut self,
         rust: Option<&T>,
         ours: &T,
-        describe: impl FnOnce(&T, &T) -> String,
+        describe: impl FnOnce(Option<&T>, &T) -> String,
     ) {
         self.cases += 1;
-        let Some(rust) = rust else {
-            self.outside += 1;
-            return;
-        };
-        if rust != ours {
+        if rust != Some(ours) {
             self.differences += 1;
             if self.differences <= PRINTED {
                 println!("{} differs: {}", self.name, describe(rust, ours));
@@ -99,31 +92,45 @@ impl Report {
         self.entries.push(entry);
     }
 
-    /// Prints the counts, and gives success exactly if nothing differs.
+    /// Prints the counts, and gives success exactly if there are cases and nothing differs.
     pub fn finish(self) -> ExitCode {
         println!(
-            "{:<44} {:>10} {:>12} {:>8}",
-            "operation", "cases", "differences", "outside"
+            "{:<44} {:>10} {:>12}",
+            "operation", "cases", "differences"
         );
         for o in &self.operations {
-            println!(
-                "{:<44} {:>10} {:>12} {:>8}",
-                o.name, o.cases, o.differences, o.outside
-            );
+            println!("{:<44} {:>10} {:>12}", o.name, o.cases, o.differences);
         }
         self.print_entries();
-        let of_operations =
-            |count: fn(&Operation) -> u64| -> u64 { self.operations.iter().map(count).sum() };
-        let of_entries = |count: fn(&Entry) -> u64| -> u64 { self.entries.iter().map(count).sum() };
-        let failed = of_operations(|o| o.differences) + of_entries(|e| e.differences);
-        let passed = of_operations(|o| o.cases - o.differences - o.outside)
-            + of_entries(|e| e.cases - e.differences);
+        let (passed, failed) = self.count();
         println!("{passed} passed, {failed} failed");
         if failed == 0 {
             ExitCode::SUCCESS
         } else {
             ExitCode::FAILURE
         }
+    }
+
+    /// How many cases passed and failed. What should have had cases and has none failed too, once.
+    fn count(&self) -> (u64, u64) {
+        let operations = self.operations.iter();
+        let operations = operations.map(|o| (&o.name, o.cases, o.differences));
+        let entries = self.entries.iter();
+        let entries = entries.map(|e| (&e.name, e.cases, e.differences));
+        let (mut passed, mut failed) = (0, 0);
+        for (name, cases, differences) in operations.chain(entries) {
+            if cases == 0 {
+                println!("{name} has no case");
+                failed += 1;
+            }
+            passed += cases - differences;
+            failed += differences;
+        }
+        if passed == 0 && failed == 0 {
+            println!("nothing was compared");
+            failed = 1;
+        }
+        (passed, failed)
     }
 
     /// A column for each number that was due anywhere.

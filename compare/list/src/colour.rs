@@ -31,7 +31,15 @@ pub fn write() {
         let answer = colour::blend_foreground_with_alpha(input.dot, color, input.alpha);
         line('w', input.dot, color, input.alpha, answer);
     }
-    let multiplies = [(200, 100, 255), (255, 255, 1), (128, 254, 1)];
+    // The last three are the same values, at which the order of the six operations in f32 shows.
+    let multiplies = [
+        (200, 100, 255),
+        (255, 255, 1),
+        (128, 254, 1),
+        (142, 208, 142),
+        (142, 142, 208),
+        (208, 142, 142),
+    ];
     for input in inputs(&multiplies, multiply_is_near_half, &mut random) {
         let color = input.color(input.alpha);
         line(

@@ -47,17 +47,31 @@ const TOO_LARGE: [u32; 18] = [
     0xffff_ffff,
 ];
 
+/// Sizes and stretches of large images that are decoded, some with spare bits. All have more than
+/// `MOST_DOTS`.
+const LARGE: [((u32, u32), (u8, u8)); 10] = [
+    ((1_024, 1_024), (1, 1)),
+    ((1_021, 1_031), (0, 0)),
+    ((16_384, 64), (1, 1)),
+    ((64, 16_384), (1, 1)),
+    ((576, 4_000), (1, 1)),
+    ((192, 1_334), (3, 3)),
+    ((16_384, 1), (1, 64)),
+    ((8, 16_384), (8, 1)),
+    ((8_191, 33), (2, 2)),
+    ((13, 65), (8, 252)),
+];
+
+/// The dots of the largest of them.
+pub const LARGEST_DOTS: usize = 3 * 192 * 3 * 1_334;
+
 pub fn of(kind: Kind, random: &mut Random, mut each: impl FnMut(Case)) {
     for width in 0..=33 {
         for height in 0..=33 {
             for stretch in 0..25 {
                 let stretch = (stretch / 5, stretch % 5);
-                let mut input = input(kind, (width, height), stretch, random);
-                input.num_colors = 1 + random.below(4) as u8;
-                let length = near_lengths(&input)[0];
-                fill(&mut input, length, random);
-                let lent = dots_length(&input) + random.one_of(&[0, 0, 0, 1, 4, 37]);
-                each(case(input, lent, random));
+                let input = input(kind, (width, height), stretch, random);
+                each(right_data(input, random));
             }
         }
     }
@@ -82,6 +96,14 @@ pub fn of(kind: Kind, random: &mut Random, mut each: impl FnMut(Case)) {
     }
     for _ in 0..4_000 {
         each(too_large(kind, random));
+    }
+    for ((width, height), stretch) in LARGE {
+        let width = match kind {
+            Kind::LayerBits => width & !7,
+            _ => width,
+        };
+        let input = input(kind, (width, height), stretch, random);
+        each(right_data(input, random));
     }
 }
 
@@ -143,6 +165,15 @@ fn thin(kind: Kind, random: &mut Random) -> Input {
     }
 }
 
+/// Gives an input at least one layer, right data and an output buffer with room.
+fn right_data(mut input: Input, random: &mut Random) -> Case {
+    input.num_colors = 1 + random.below(4) as u8;
+    let [right, ..] = near_lengths(&input);
+    fill(&mut input, right, random);
+    let lent = dots_length(&input) + random.one_of(&[0, 0, 0, 1, 4, 37]);
+    case(input, lent, random)
+}
+
 /// Gives an input data and an output buffer, right or wrong independently.
 fn any_data(mut input: Input, random: &mut Random) -> Case {
     // Many layers are asked of small images, so that the dots of all layers stay few.
@@ -166,7 +197,7 @@ fn any_data(mut input: Input, random: &mut Random) -> Case {
     let need = if w * h <= MOST_DOTS {
         dots_length(&input)
     } else {
-        // Never a buffer with room.
+        // Never a buffer with room, which only `LARGE` have.
         random.below(4096)
     };
     let lent = match random.below(16) {

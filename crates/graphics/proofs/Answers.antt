@@ -10,7 +10,7 @@ use Rattle.numbers.specs.Numbers.{done}
 use Rattle.colour.specs.declared.RGBA.{RGBA}
 use Rattle.graphics.specs.declared.formats.Format.{Format}
 use Rattle.graphics.specs.Formats.{bytesOf, rasterOf}
-use Rattle.graphics.specs.Decoding.{factor, isTight, answer, output}
+use Rattle.graphics.specs.Decoding.{factor, lacksRoom, answer, output}
 use Rattle.graphics.specs.Steps.{Sound, Layered, landed, pictureOn}
 use Rattle.graphics.proofs.Codes.{Small, Layers}
 
@@ -46,8 +46,8 @@ module _ (number w h fx fy : ℕ) where
 
 -- ---- what the inner steps ask for
 
-pub room-for : (w h fx fy : ℕ) {room : ℕ} → isTight w h fx fy room ≡ false → w * fx * (h * fy) * 4 ≤ room
-unfolding isTight
+pub room-for : (w h fx fy : ℕ) {room : ℕ} → lacksRoom w h fx fy room ≡ false → w * fx * (h * fy) * 4 ≤ room
+unfolding lacksRoom
 room-for w h fx fy {room} e = omega (arith, ltb-false room (4 * (w * fx * (h * fy))) e)
 
 pub sound-of : (f : Format) (w h fx fy : ℕ) (c : RGBA) {n : ℕ} → Small w h fx fy → 0 < fx → 0 < fy → bytesOf f w h ≤ n

@@ -10,7 +10,7 @@ use Rattle.numbers.specs.Numbers.{limit, done, noRoom, tooLarge, wrongLength, n
 use Rattle.colour.specs.Choice.{if_then_else_}
 use Rattle.graphics.specs.declared.formats.Format.{Format}
 use Rattle.graphics.specs.Formats.{bytesOf, rasterOf}
-use Rattle.graphics.specs.Decoding.{isLarge, isTight, refusal}
+use Rattle.graphics.specs.Decoding.{isLarge, lacksRoom, refusal}
 use Rattle.graphics.specs.Layers.{layerBytes, outgrown, layersRefusal}
 
 -- ---- sides within the limit
@@ -48,20 +48,20 @@ module _ (f : Format) (w h fx fy n room : ℕ) where
   unfolding refusal
   single-length l e = rw (l, ne-eqb n (bytesOf f w h) e)
 
-  pub single-rest : isLarge w h fx fy ≡ false → n ≡ bytesOf f w h → {t : Bool} → isTight w h fx fy room ≡ t → (if t then noRoom else done) ≡ refusal f w h fx fy n room
+  pub single-rest : isLarge w h fx fy ≡ false → n ≡ bytesOf f w h → {t : Bool} → lacksRoom w h fx fy room ≡ t → (if t then noRoom else done) ≡ refusal f w h fx fy n room
   unfolding refusal
   single-rest l e {t} u = rw (l, eq-eqb n (bytesOf f w h) e, u)
 
   pub record Single : Type 0 where
     pub sides : Small w h fx fy
     pub bytes : n ≡ bytesOf f w h
-    pub fits : isTight w h fx fy room ≡ false
+    pub fits : lacksRoom w h fx fy room ≡ false
 
   pub single-done : refusal f w h fx fy n room ≡ done → Single
   unfolding refusal
-  single-done = go (isLarge w h fx fy) (eqb n (bytesOf f w h)) (isTight w h fx fy room) refl refl refl
+  single-done = go (isLarge w h fx fy) (eqb n (bytesOf f w h)) (lacksRoom w h fx fy room) refl refl refl
     where
-      go : (a b c : Bool) → isLarge w h fx fy ≡ a → eqb n (bytesOf f w h) ≡ b → isTight w h fx fy room ≡ c
+      go : (a b c : Bool) → isLarge w h fx fy ≡ a → eqb n (bytesOf f w h) ≡ b → lacksRoom w h fx fy room ≡ c
           → (if a then tooLarge else if not b then wrongLength else if c then noRoom else done) ≡ done → Single
       go false true false l e u r = record { sides = small w h fx fy l; bytes = eqb-true n (bytesOf f w h) e; fits = u }
       go true b c l e u r = absurd (omega arith)
@@ -99,7 +99,7 @@ module _ (bits : Bool) (w h fx fy n size room : ℕ) where
   layers-inner l e z i = rw (l, eq-eqb size (n * (1 + layer)) e, ne-eqb n 0 z, ne-eqb layer asked i)
 
   pub layers-rest : isLarge w h fx fy ≡ false → size ≡ n * (1 + layer) → (n ≡ 0 → ⊥) → layer ≡ asked
-      → {s t : Bool} → outgrown (w * fx) (h * fy) (w * fx) (h * fy) ≡ s → isTight w h fx fy room ≡ t → (if s then layerSize else if t then noRoom else done) ≡ layersRefusal bits w h fx fy n size room
+      → {s t : Bool} → outgrown (w * fx) (h * fy) (w * fx) (h * fy) ≡ s → lacksRoom w h fx fy room ≡ t → (if s then layerSize else if t then noRoom else done) ≡ layersRefusal bits w h fx fy n size room
   unfolding layersRefusal
   layers-rest l e z i {s} {t} o u = rw (l, eq-eqb size (n * (1 + layer)) e, ne-eqb n 0 z, eq-eqb layer asked i, o, u)
 
@@ -108,13 +108,13 @@ module _ (bits : Bool) (w h fx fy n size room : ℕ) where
     pub whole : size ≡ n * (1 + layer)
     pub some : n ≡ 0 → ⊥
     pub bytes : layer ≡ asked
-    pub fits : isTight w h fx fy room ≡ false
+    pub fits : lacksRoom w h fx fy room ≡ false
 
   pub layers-done : layersRefusal bits w h fx fy n size room ≡ done → Layers
   unfolding layersRefusal
-  layers-done = go (isLarge w h fx fy) (eqb size (n * (1 + layer))) (eqb n 0) (eqb layer asked) (outgrown (w * fx) (h * fy) (w * fx) (h * fy)) (isTight w h fx fy room) refl refl refl refl refl
+  layers-done = go (isLarge w h fx fy) (eqb size (n * (1 + layer))) (eqb n 0) (eqb layer asked) (outgrown (w * fx) (h * fy) (w * fx) (h * fy)) (lacksRoom w h fx fy room) refl refl refl refl refl
     where
-      go : (a b c d s t : Bool) → isLarge w h fx fy ≡ a → eqb size (n * (1 + layer)) ≡ b → eqb n 0 ≡ c → eqb layer asked ≡ d → isTight w h fx fy room ≡ t
+      go : (a b c d s t : Bool) → isLarge w h fx fy ≡ a → eqb size (n * (1 + layer)) ≡ b → eqb n 0 ≡ c → eqb layer asked ≡ d → lacksRoom w h fx fy room ≡ t
           → (if a then tooLarge else if not b then wrongLength else if not c && not d then wrongLength else if c then noLayers else if s then layerSize else if t then noRoom else done) ≡ done → Layers
       go false true false true false false la lb lc ld lt r =
           record { sides = small w h fx fy la; whole = eqb-true size (n * (1 + layer)) lb; some = eqb-false n 0 lc; bytes = eqb-true layer asked ld; fits = lt }

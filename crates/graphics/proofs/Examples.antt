@@ -9,7 +9,7 @@ use Rattle.colour.specs.Channel.{blendByte, product, roundAway, multiplyByte}
 use Rattle.colour.specs.Colour.{rgba, withAlpha}
 use Rattle.graphics.specs.declared.formats.Format.the-variants.{Bits, Columns}
 use Rattle.graphics.specs.Formats.{bitAlpha, alphaOf, bytesOf}
-use Rattle.graphics.specs.Decoding.{factor, isLarge, isTight, refusal, answer, decoded}
+use Rattle.graphics.specs.Decoding.{factor, isLarge, lacksRoom, refusal, answer, decoded}
 use Rattle.graphics.specs.Layers.{layerBytes, outgrown, layersRefusal, merged}
 
 -- what the definitions give, and what 01 says
@@ -62,5 +62,5 @@ rows =
     ∷ []
 
 examples : map given rows ≡ map said rows
-unfolding rows given said pixel raster column number blendByte multiplyByte roundAway product ofInt mul div bitAlpha alphaOf bytesOf factor isLarge isTight refusal answer decoded layerBytes outgrown layersRefusal merged
+unfolding rows given said pixel raster column number blendByte multiplyByte roundAway product ofInt mul div bitAlpha alphaOf bytesOf factor isLarge lacksRoom refusal answer decoded layerBytes outgrown layersRefusal merged
 examples = refl

@@ -17,7 +17,7 @@ use Rattle.graphics.specs.declared.scale.Source.{Source}
 use Rattle.graphics.specs.declared.formats.Format.the-variants.{Bits}
 use Rattle.graphics.specs.Formats.{rowBytes, alphaOf, bytesOf}
 use Rattle.graphics.specs.Decoding.{pixelOf}
-use Rattle.graphics.specs.Steps.{Sound, Above, repeated, landed, sourcePixel, rowFrom, pictureOn}
+use Rattle.graphics.specs.Steps.{Sound, Above, repeated, landed, sourcePixel, rowOn, pictureOn}
 use Rattle.graphics.proofs.Places.{line-fits, row-in-data}
 use Rattle.graphics.proofs.Unpacking.{bitsDot}
 
@@ -72,8 +72,8 @@ module _ (s : Source) (bytes : List ℕ) (blend : Bool) (at j : ℕ) (l : List �
   pub across-at : {x i k : ℕ} {out : List ℕ} → i ≡ k → Across x i out → Across x k out
   across-at e a = rw e at a
 
-  pub across-end : {x i : ℕ} {out : List ℕ} → Across x i out → s .w ≤ x → out ≡ rowFrom at (s .w * s .fx) blend (sourcePixel s bytes) j l
-  unfolding rowFrom
+  pub across-end : {x i : ℕ} {out : List ℕ} → Across x i out → s .w ≤ x → out ≡ rowOn at (s .w * s .fx) blend (sourcePixel s bytes) j l
+  unfolding rowOn
   across-end {x} {i} a h =
       let e : x ≡ s .w = omega (arith, a .upto) in
       let p : i ≡ at + s .w * s .fx = a .place ∙ rw e in
@@ -103,8 +103,8 @@ module _ (W H : ℕ) (blend : Bool) (pixel : ℕ → ℕ → RGBA) (l : List ℕ
   pub down-room : {j at : ℕ} {out : List ℕ} → Down j at out → j < H → W * H * 4 ≤ length l → (at + W) * 4 ≤ length out
   down-room {j} a h r = omega (arith, a .place, a .same, line-fits W H j h)
 
-  pub down-next : {j at : ℕ} {out out' : List ℕ} → Down j at out → j < H → out' ≡ rowFrom at W blend pixel j out → Down (j + 1) (at + W) out'
-  unfolding rowFrom
+  pub down-next : {j at : ℕ} {out out' : List ℕ} → Down j at out → j < H → out' ≡ rowOn at W blend pixel j out → Down (j + 1) (at + W) out'
+  unfolding rowOn
   down-next {j} {at} {out} {out'} a h eo =
       record {
         place = omega (arith, a .place, add-mul j 1 W);
@@ -175,8 +175,8 @@ module _ (s : Source) (bytes : List ℕ) (l : List ℕ) where
 
 -- the row above once more is row j
 pub repeat-is-row : (s : Source) (bytes : List ℕ) (blend : Bool) (at j : ℕ) (out : List ℕ) → Above s bytes blend at j out → repeated j (s .fy) blend ≡ true
-    → {m : List ℕ} → m ≡ change (within at (at + s .w * s .fx)) (λ i _. dotAt out (i - s .w * s .fx)) out → m ≡ rowFrom at (s .w * s .fx) blend (sourcePixel s bytes) j out
-unfolding rowFrom landed
+    → {m : List ℕ} → m ≡ change (within at (at + s .w * s .fx)) (λ i _. dotAt out (i - s .w * s .fx)) out → m ≡ rowOn at (s .w * s .fx) blend (sourcePixel s bytes) j out
+unfolding rowOn landed
 repeat-is-row s bytes blend at j out a e em =
     em ∙ rw (is-repeated j (s .fy) blend e .0) (change-by _ _ _ out (λ i w. let b = within-true at (at + s .w * s .fx) i w in a .dots e i (b .0) (b .1)))
 
@@ -186,6 +186,6 @@ pub bits-in-data : (s : Source) {n j row : ℕ} → Sound s n → j < s .h * s .
 bits-in-data s o hj e er = rw er (row-in-data (s .w) (s .h) _ e (div-lt-iff-lt-mul (o .fy) .1 hj) (o .bytes))
 
 pub bits-is-row : (s : Source) (bytes : List ℕ) (blend : Bool) (at j : ℕ) (out : List ℕ) → (s .format ≡ Bits) × (s .fx ≡ 1) → {row : ℕ} → row ≡ rowBytes (s .w)
-    → {m : List ℕ} → m ≡ change (within at (at + s .w)) (bitsDot bytes at (j / s .fy * row) (s .color) blend) out → m ≡ rowFrom at (s .w * s .fx) blend (sourcePixel s bytes) j out
-unfolding rowFrom sourcePixel pixelOf alphaOf
+    → {m : List ℕ} → m ≡ change (within at (at + s .w)) (bitsDot bytes at (j / s .fy * row) (s .color) blend) out → m ≡ rowOn at (s .w * s .fx) blend (sourcePixel s bytes) j out
+unfolding rowOn sourcePixel pixelOf alphaOf
 bits-is-row s bytes blend at j out e er em = em ∙ simp (er, e .0, e .1, mul-one, div-one)

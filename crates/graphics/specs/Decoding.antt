@@ -26,15 +26,15 @@ unfoldable pub isLarge : ℕ → ℕ → ℕ → ℕ → Bool
 isLarge w h fx fy = ltb limit w || ltb limit h || ltb limit (w * fx) || ltb limit (h * fy)
 
 -- an output of `room` bytes is too short for the stretched image
-unfoldable pub isTight : ℕ → ℕ → ℕ → ℕ → ℕ → Bool
-isTight w h fx fy room = ltb room (4 * (w * fx * (h * fy)))
+unfoldable pub lacksRoom : ℕ → ℕ → ℕ → ℕ → ℕ → Bool
+lacksRoom w h fx fy room = ltb room (4 * (w * fx * (h * fy)))
 
 -- order 2, 3, 1, for n bytes of data
 unfoldable pub refusal : Format → ℕ → ℕ → ℕ → ℕ → ℕ → ℕ → ℕ
 refusal f w h fx fy n room =
     if isLarge w h fx fy then tooLarge
     else if not (eqb n (bytesOf f w h)) then wrongLength
-    else if isTight w h fx fy room then noRoom
+    else if lacksRoom w h fx fy room then noRoom
     else done
 
 -- the answer: the number with the stretched sizes, and zero sizes for a refusal

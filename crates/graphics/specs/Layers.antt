@@ -11,7 +11,7 @@ use Rattle.colour.specs.declared.RGBA.{RGBA}
 use Rattle.colour.specs.declared.RenderColors.{RenderColors}
 use Rattle.graphics.specs.declared.Decoded.{Decoded}
 use Rattle.graphics.specs.Formats.{bytesOf, rasterOf}
-use Rattle.graphics.specs.Decoding.{factor, pixelOf, isLarge, isTight, answer, output}
+use Rattle.graphics.specs.Decoding.{factor, pixelOf, isLarge, lacksRoom, answer, output}
 
 -- a layer's bytes after its colour byte: floor(w/8)·h as bits, w·h as alphas
 unfoldable pub layerBytes : Bool → ℕ → ℕ → ℕ
@@ -50,7 +50,7 @@ layersRefusal bits w h fx fy n size room =
     else if not (eqb n 0) && not (eqb (layerBytes bits w h) (bytesOf (rasterOf bits) w h)) then wrongLength
     else if eqb n 0 then noLayers
     else if outgrown (w * fx) (h * fy) (w * fx) (h * fy) then layerSize
-    else if isTight w h fx fy room then noRoom
+    else if lacksRoom w h fx fy room then noRoom
     else done
 
 -- the decoder of n layers, on `size` bytes of data and an output of `room` bytes

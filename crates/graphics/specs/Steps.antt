@@ -36,7 +36,7 @@ pub record Layered (bits : Bool) (s : Source) (n size : ℕ) : Type 0 where
 unfoldable pub landed : Bool → RGBA → RGBA → RGBA
 landed blend p d = if blend then blended p d else p
 
--- row j is put, and is the row above it
+-- where row j is put and shows the source dots of the row above it
 unfoldable pub repeated : ℕ → ℕ → Bool → Bool
 repeated j fy blend = not blend && not (eqb (j % fy) 0)
 
@@ -45,8 +45,8 @@ unfoldable pub sourcePixel : Source → List ℕ → ℕ → ℕ → RGBA
 sourcePixel s bytes = pixelOf (s .format) bytes (s .w) (s .h) (s .fx) (s .fy) (s .color)
 
 -- row j of a picture W dots wide, from dot `at` on
-unfoldable pub rowFrom : ℕ → ℕ → Bool → (ℕ → ℕ → RGBA) → ℕ → List ℕ → List ℕ
-rowFrom at W blend pixel j out = change (within at (at + W)) (λ i d. landed blend (pixel (i - at) j) d) out
+unfoldable pub rowOn : ℕ → ℕ → Bool → (ℕ → ℕ → RGBA) → ℕ → List ℕ → List ℕ
+rowOn at W blend pixel j out = change (within at (at + W)) (λ i d. landed blend (pixel (i - at) j) d) out
 
 -- a picture of W by H dots from the first dot on
 unfoldable pub pictureOn : ℕ → ℕ → Bool → (ℕ → ℕ → RGBA) → List ℕ → List ℕ

@@ -3,7 +3,7 @@ ghost use mathlib.Core.Path.{_≡_};
 ghost use Prim.Native.Nat.{_*_, _≤_};
 ghost use Rattle.numbers.specs.Numbers.{limit};
 ghost use Rattle.graphics.specs.Formats.{bytesOf};
-ghost use Rattle.graphics.specs.Decoding.{factor, isLarge, isTight, refusal};
+ghost use Rattle.graphics.specs.Decoding.{factor, isLarge, lacksRoom, refusal};
 ghost use Rattle.graphics.specs.Layers.{layerBytes, outgrown, layersRefusal};
 use super::formats::Format;
 use super::formats::raster_of;
@@ -40,9 +40,9 @@ fn is_large(w: u32, h: u32, fx: u32, fy: u32) -> bool
     h * fy > LIMIT
 }
 
-fn is_tight(w: u32, h: u32, fx: u32, fy: u32, room: usize) -> bool
+fn lacks_room(w: u32, h: u32, fx: u32, fy: u32, room: usize) -> bool
     requires { ⌜ (w * fx ≤ limit) × (h * fy ≤ limit) ⌝ }
-    ensures { λ r. ⌜ r ≡ isTight w h fx fy room ⌝ }
+    ensures { λ r. ⌜ r ≡ lacksRoom w h fx fy room ⌝ }
 {
     room < 4 * ((w * fx) as usize * (h * fy) as usize)
 }
@@ -70,7 +70,7 @@ pub fn refusal_of(format: Format, w: u32, h: u32, fx: u32, fy: u32, n: usize, ro
     if n != bytes_of(format, w, h) {
         return WRONG_LENGTH;
     }
-    if is_tight(w, h, fx, fy, room) {
+    if lacks_room(w, h, fx, fy, room) {
         return NO_ROOM;
     }
     DONE
@@ -125,7 +125,7 @@ pub fn layers_refusal(
     if outgrows(w * fx, h * fy, w * fx, h * fy) {
         return LAYER_SIZE;
     }
-    if is_tight(w, h, fx, fy, room) {
+    if lacks_room(w, h, fx, fy, room) {
         return NO_ROOM;
     }
     DONE

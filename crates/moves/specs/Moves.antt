@@ -52,7 +52,7 @@ turnedWide ThreeQuarters w h = h
 abbrev pub turnedTall : Turn → ℕ → ℕ → ℕ
 turnedTall by w h = turnedWide by h w
 
--- the other way round: what is found at column c, row r was in this column ..
+-- the other way round, which `turned-dot` of proofs/Laws shows to be the same: what is found at column c, row r was in this column ..
 unfoldable pub columnFrom : Turn → ℕ → ℕ → ℕ → ℕ
 columnFrom Quarter w c r = r
 columnFrom Half w c r = w - 1 - c

@@ -1,6 +1,7 @@
 -- The numbers that an entry can give, and the largest side.
 use Prim.Native.Nat.{ℕ}
 
+-- the largest width and height
 abbrev pub limit : ℕ
 limit = 16384
 

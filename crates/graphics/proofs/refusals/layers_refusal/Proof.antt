@@ -7,7 +7,7 @@ use native.Mathlib.Omega.{arith}
 use Rattle.numbers.specs.Numbers.{done, noRoom, layerSize}
 use Rattle.colour.specs.Choice.{if_then_else_}
 use Rattle.graphics.specs.Formats.{bytesOf, rasterOf}
-use Rattle.graphics.specs.Decoding.{isLarge, isTight}
+use Rattle.graphics.specs.Decoding.{isLarge, lacksRoom}
 use Rattle.graphics.specs.Layers.{layerBytes, outgrown, layersRefusal}
 use Rattle.graphics.proofs.Codes.{Small, small, layer-small, layers-large, layers-length, layers-none, layers-inner, layers-rest}
 use borrow.Author.Needs.{needs}
@@ -34,7 +34,7 @@ same-bytes c = sym (c .before .before .before .before .before .layer-bytes .ensu
 
 -- what is left once a layer is as long as it has to be
 rest : (c : tie.Else4) {s t : Bool} → let p = c .before .before .before .before .before .before .before .before .args in
-    outgrown (p .w * p .fx) (p .h * p .fy) (p .w * p .fx) (p .h * p .fy) ≡ s → isTight (p .w) (p .h) (p .fx) (p .fy) (p .room) ≡ t
+    outgrown (p .w * p .fx) (p .h * p .fy) (p .w * p .fx) (p .h * p .fy) ≡ s → lacksRoom (p .w) (p .h) (p .fx) (p .fy) (p .room) ≡ t
     → (if s then layerSize else if t then noRoom else done) ≡ layersRefusal (p .bits) (p .w) (p .h) (p .fx) (p .fy) (p .n) (p .size) (p .room)
 rest c o u =
     let k = c .before .before .before in
@@ -91,14 +91,14 @@ outgrows-requires c κs = search needs
 returns-5 : tie.Need-returns-5
 returns-5 c = rest (c .before .before) (sym (c .before .outgrows .ensures) ∙ c .if5 .taken) refl
 
-is-tight-requires : tie.Need-is-tight-requires
-is-tight-requires c κs = let s = sides (c .before .before .before .before .before .before .before .before) in (s .wide, s .tall)
+lacks-room-requires : tie.Need-lacks-room-requires
+lacks-room-requires c κs = let s = sides (c .before .before .before .before .before .before .before .before) in (s .wide, s .tall)
 
 returns-6 : tie.Need-returns-6
-returns-6 c = rest (c .before .before .before .before) (sym (c .before .before .before .outgrows .ensures) ∙ c .before .before .if5 .left) (sym (c .before .is-tight .ensures) ∙ c .if6 .taken)
+returns-6 c = rest (c .before .before .before .before) (sym (c .before .before .before .outgrows .ensures) ∙ c .before .before .if5 .left) (sym (c .before .lacks-room .ensures) ∙ c .if6 .taken)
 
 returns-7 : tie.Need-returns-7
-returns-7 c = rest (c .before .before .before .before) (sym (c .before .before .before .outgrows .ensures) ∙ c .before .before .if5 .left) (sym (c .before .is-tight .ensures) ∙ c .if6 .left)
+returns-7 c = rest (c .before .before .before .before) (sym (c .before .before .before .outgrows .ensures) ∙ c .before .before .if5 .left) (sym (c .before .lacks-room .ensures) ∙ c .if6 .left)
 
 pub layers-refusal-spec : {M : Type 1} → statement M
 layers-refusal-spec =
@@ -120,6 +120,6 @@ layers-refusal-spec =
     mul-outgrows-4
     outgrows-requires
     returns-5
-    is-tight-requires
+    lacks-room-requires
     returns-6
     returns-7)

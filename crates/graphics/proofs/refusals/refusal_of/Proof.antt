@@ -22,14 +22,14 @@ bytes-of-requires c κs = let s = small _ _ _ _ (not-large c) in (s .width, s .h
 returns-2 : tie.Need-returns-2
 returns-2 c = single-length _ _ _ _ _ _ _ (not-large (c .before .before)) (λ e. c .if2 .taken (e ∙ sym (c .before .bytes-of .ensures)))
 
-is-tight-requires : tie.Need-is-tight-requires
-is-tight-requires c κs = let s = small _ _ _ _ (not-large (c .before .before)) in (s .wide, s .tall)
+lacks-room-requires : tie.Need-lacks-room-requires
+lacks-room-requires c κs = let s = small _ _ _ _ (not-large (c .before .before)) in (s .wide, s .tall)
 
 returns-3 : tie.Need-returns-3
-returns-3 c = single-rest _ _ _ _ _ _ _ (not-large (c .before .before .before .before)) (c .before .before .if2 .left ∙ c .before .before .before .bytes-of .ensures) (sym (c .before .is-tight .ensures) ∙ c .if3 .taken)
+returns-3 c = single-rest _ _ _ _ _ _ _ (not-large (c .before .before .before .before)) (c .before .before .if2 .left ∙ c .before .before .before .bytes-of .ensures) (sym (c .before .lacks-room .ensures) ∙ c .if3 .taken)
 
 returns-4 : tie.Need-returns-4
-returns-4 c = single-rest _ _ _ _ _ _ _ (not-large (c .before .before .before .before)) (c .before .before .if2 .left ∙ c .before .before .before .bytes-of .ensures) (sym (c .before .is-tight .ensures) ∙ c .if3 .left)
+returns-4 c = single-rest _ _ _ _ _ _ _ (not-large (c .before .before .before .before)) (c .before .before .if2 .left ∙ c .before .before .before .bytes-of .ensures) (sym (c .before .lacks-room .ensures) ∙ c .if3 .left)
 
 pub refusal-of-spec : {M : Type 1} → statement M
 refusal-of-spec =
@@ -39,6 +39,6 @@ refusal-of-spec =
     returns
     bytes-of-requires
     returns-2
-    is-tight-requires
+    lacks-room-requires
     returns-3
     returns-4)

@@ -1,11 +1,11 @@
--- `graphics::refusals::is_tight` meets its contract. Assumes nothing.
+-- `graphics::refusals::lacks_room` meets its contract. Assumes nothing.
 use mathlib.Core.Path.{refl}
 use native.Mathlib.Omega.{arith}
-use Rattle.graphics.specs.Decoding.{isTight}
+use Rattle.graphics.specs.Decoding.{lacksRoom}
 use Rattle.graphics.proofs.Codes.{area}
 use borrow.Author.Needs.{needs}
-use Rattle.graphics.proofs.refusals.is_tight.Statement.{statement}
-use Rattle.graphics.proofs.refusals.is_tight.Tie as tie
+use Rattle.graphics.proofs.refusals.lacks_room.Statement.{statement}
+use Rattle.graphics.proofs.refusals.lacks_room.Tie as tie
 
 mul-result : tie.Need-mul-result
 mul-result c = search needs
@@ -26,10 +26,10 @@ mul-result-4 : tie.Need-mul-result-4
 mul-result-4 c = omega (arith, area (c .pre .0) (c .pre .1))
 
 returns : tie.Need-returns
-unfolding isTight
+unfolding lacksRoom
 returns c = refl
 
-pub is-tight-spec : {M : Type 1} → statement M
-is-tight-spec =
+pub lacks-room-spec : {M : Type 1} → statement M
+lacks-room-spec =
     tie.close
     (tie.spec mul-result cast-result mul-result-2 cast-result-2 mul-result-3 mul-result-4 returns)
