@@ -236,5 +236,8 @@ impl Lent {
 
 fn answers(input: String, rust: Option<&u32>, ours: &u32) -> String {
     let rust = rust.map_or("stops".into(), |&rust| format!("gives {}", hex(rust)));
-    format!("{input}: the Rust {rust}, this library gives {}", hex(*ours))
+    format!(
+        "{input}: the Rust {rust}, this library gives {}",
+        hex(*ours)
+    )
 }

@@ -92,6 +92,7 @@ impl Judge<'_> {
     }
 }
 
+/// What the original says of a case.
 enum Rust {
     NotCalled,
     Stops,
@@ -130,8 +131,8 @@ fn expected<'a>(due: u8, case: &Case, rust: &'a Rust) -> Result<(Decoded, &'a [u
     }
 }
 
-/// The original takes a column's bytes without a test of their number, so that it stops at the
-/// first that lacks.
+/// The original turns a column's dots without a test of their number, and stops where some are
+/// missing.
 fn is_short_column(input: &Input) -> bool {
     let given = input.data.len() as u64;
     input.kind == Kind::Column && rules::data_length(input).is_some_and(|right| given < right)

@@ -94,10 +94,7 @@ impl Report {
 
     /// Prints the counts, and gives success exactly if there are cases and nothing differs.
     pub fn finish(self) -> ExitCode {
-        println!(
-            "{:<44} {:>10} {:>12}",
-            "operation", "cases", "differences"
-        );
+        println!("{:<44} {:>10} {:>12}", "operation", "cases", "differences");
         for o in &self.operations {
             println!("{:<44} {:>10} {:>12}", o.name, o.cases, o.differences);
         }

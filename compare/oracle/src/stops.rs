@@ -1,4 +1,4 @@
-//! Where the original stops, an input is outside the domain.
+//! Where the original stops, it has no answer.
 
 use std::cell::Cell;
 use std::panic::{self, AssertUnwindSafe};
