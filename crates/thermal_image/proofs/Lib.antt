@@ -1,0 +1,4 @@
+pub mod Codes
+pub mod Laws
+mod Answers
+mod Unique
