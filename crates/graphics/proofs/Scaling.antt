@@ -173,12 +173,14 @@ module _ (s : Source) (bytes : List ℕ) (l : List ℕ) where
             above (rw (t .0) at a) (o .0) (omega (arith, a .same)) i u v ∙ same-pixel j (i - at) (o .1);
       }
 
--- the row above once more is row j
-pub repeat-is-row : (s : Source) (bytes : List ℕ) (blend : Bool) (at j : ℕ) (out : List ℕ) → Above s bytes blend at j out → repeated j (s .fy) blend ≡ true
-    → {m : List ℕ} → m ≡ change (within at (at + s .w * s .fx)) (λ i _. dotAt out (i - s .w * s .fx)) out → m ≡ rowOn at (s .w * s .fx) blend (sourcePixel s bytes) j out
+-- the row above moved on is row j
+pub repeat-is-row : (s : Source) (bytes : List ℕ) (blend : Bool) (at j : ℕ) (out : List ℕ) → Above s bytes blend at j out → repeated j (s .fy) blend ≡ true → {m : List ℕ}
+    → m ≡ change (within (at - s .w * s .fx + s .w * s .fx) (at - s .w * s .fx + s .w * s .fx + s .w * s .fx)) (λ i _. dotAt out (i - s .w * s .fx)) out
+    → m ≡ rowOn at (s .w * s .fx) blend (sourcePixel s bytes) j out
 unfolding rowOn landed
 repeat-is-row s bytes blend at j out a e em =
-    em ∙ rw (is-repeated j (s .fy) blend e .0) (change-by _ _ _ out (λ i w. let b = within-true at (at + s .w * s .fx) i w in a .dots e i (b .0) (b .1)))
+    let o : at - s .w * s .fx + s .w * s .fx ≡ at = omega (arith, a .room e) in
+    em ∙ rw (o, is-repeated j (s .fy) blend e .0) (change-by _ _ _ out (λ i w. let b = within-true at (at + s .w * s .fx) i w in a .dots e i (b .0) (b .1)))
 
 -- ---- a row of bits that are not stretched
 

@@ -14,6 +14,7 @@ use dots::draw_run;
 use dots::fill_run;
 use dots::get_dot;
 use dots::set_dot;
+use moves::move_run;
 
 // An image but for its data: its format, its sides, the stretch of each, and its colour.
 pub struct Source {
@@ -99,20 +100,6 @@ fn scale_pixels(out: &mut [u8], at: usize, data: &[u8], source: Source, j: usize
     }
 }
 
-// The row of dots before dot `at` once more.
-fn repeat_row(out: &mut [u8], at: usize, wide: usize)
-    requires { ⌜ (wide ≤ at) × ((at + wide) * 4 ≤ length (now out)) ⌝ }
-    ensures { λ _. ⌜ now (out .exit) ≡ change (within at (at + wide)) (λ i _. dotAt (now (out .entry)) (i - wide)) (now (out .entry)) ⌝ }
-{
-    let end = at + wide;
-    let mut i = at;
-    while i < end {
-        let d = get_dot(out, i - wide);
-        set_dot(out, i, d);
-        i += 1;
-    }
-}
-
 // A row that is put is the row above it, unless a row of source dots begins with it.
 fn repeats(j: usize, fy: usize, blend: bool) -> bool
     requires { ⌜ 0 < fy ⌝ }
@@ -144,7 +131,7 @@ fn draw_row(out: &mut [u8], at: usize, data: &[u8], source: Source, j: usize, bl
 {
     if repeats(j, source.fy, blend) {
         let wide = source.w * source.fx;
-        repeat_row(out, at, wide);
+        move_run(out, at - wide, wide, wide);
         return;
     }
     if plain_bits(source) {

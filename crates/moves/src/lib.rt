@@ -11,6 +11,7 @@ mod widening;
 pub use copy::copy_dots;
 pub use lower::move_down;
 pub use rgb::rgb_bytes;
+pub use run::move_run;
 pub use turned::Turn;
 pub use turning::turn;
 pub use widening::widen;

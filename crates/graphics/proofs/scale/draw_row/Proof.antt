@@ -34,11 +34,14 @@ repeats-requires c κs = c .before .before .pre .0 .fy
 mul-wide : tie.Need-mul-wide
 mul-wide c = let s = c .before .before .before .before .before in omega (arith, s .pre .0 .wide)
 
-repeat-row-requires : tie.Need-repeat-row-requires
-repeat-row-requires c κs =
+sub-move-run : tie.Need-sub-move-run
+sub-move-run c = let t = c .before .before in omega (arith, t .before .before .before .before .pre .1 .1 .room (again t))
+
+move-run-requires : tie.Need-move-run-requires
+move-run-requires c κs =
     let t = c .before .before in
     let s = t .before .before .before .before in
-    (s .pre .1 .1 .room (again t), s .pre .1 .0 .1)
+    omega (arith, s .pre .1 .1 .room (again t), s .pre .1 .0 .1)
 
 same-length : tie.Need-same-length
 same-length c = search needs
@@ -48,7 +51,7 @@ returns c =
     let d = c .before .before in
     let t = d .before .before .before in
     let s = t .before .before .before .before in
-    repeat-is-row _ _ _ _ _ _ (s .pre .1 .1) (again t) (d .repeat-row .ensures)
+    repeat-is-row _ _ _ _ _ _ (s .pre .1 .1) (again t) (d .move-run .ensures)
 
 plain-bits-requires : tie.Need-plain-bits-requires
 plain-bits-requires c κs = search needs
@@ -107,7 +110,8 @@ draw-row-spec =
     (tie.spec
     repeats-requires
     mul-wide
-    repeat-row-requires
+    sub-move-run
+    move-run-requires
     same-length
     returns
     plain-bits-requires
