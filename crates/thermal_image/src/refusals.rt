@@ -28,7 +28,7 @@ fn tall_refusal(h: usize) -> u8
     DONE
 }
 
-pub fn wide_refusal(w: u32) -> u8
+pub(crate) fn wide_refusal(w: u32) -> u8
     ensures { λ r. ⌜ r ≡ wideRefusal w ⌝ }
 {
     if w > ThermalImage::LIMIT {
@@ -56,7 +56,7 @@ fn rgb_room_refusal(w: u32, h: u32, n: usize) -> u8
     DONE
 }
 
-pub fn unsound(t: ThermalImage, n: usize) -> u8
+pub(crate) fn unsound(t: ThermalImage, n: usize) -> u8
     ensures { λ r. ⌜ r ≡ unsound t n ⌝ }
 {
     if t.width > ThermalImage::LIMIT {
@@ -74,7 +74,7 @@ pub fn unsound(t: ThermalImage, n: usize) -> u8
     DONE
 }
 
-pub fn grow_refusal(t: ThermalImage, height: u32, n: usize) -> u8
+pub(crate) fn grow_refusal(t: ThermalImage, height: u32, n: usize) -> u8
     ensures { λ r. ⌜ r ≡ growRefusal t height n ⌝ }
 {
     let number = first(unsound(t, n), tall_refusal(height as usize));
@@ -82,7 +82,7 @@ pub fn grow_refusal(t: ThermalImage, height: u32, n: usize) -> u8
 }
 
 // The sum of two heights fits a u32 once it is within the limit.
-pub fn margin_refusal(t: ThermalImage, rows: u32, n: usize) -> u8
+pub(crate) fn margin_refusal(t: ThermalImage, rows: u32, n: usize) -> u8
     ensures { λ r. ⌜ r ≡ marginRefusal t rows n ⌝ }
 {
     let number = first(
@@ -95,13 +95,13 @@ pub fn margin_refusal(t: ThermalImage, rows: u32, n: usize) -> u8
     room_refusal(t.width, t.height + rows, n)
 }
 
-pub fn width_refusal(t: ThermalImage, width: u32, n: usize) -> u8
+pub(crate) fn width_refusal(t: ThermalImage, width: u32, n: usize) -> u8
     ensures { λ r. ⌜ r ≡ widthRefusal t width n ⌝ }
 {
     first(unsound(t, n), wide_refusal(width))
 }
 
-pub fn widen_refusal(t: ThermalImage, width: u32, n: usize) -> u8
+pub(crate) fn widen_refusal(t: ThermalImage, width: u32, n: usize) -> u8
     ensures { λ r. ⌜ r ≡ widenRefusal t width n ⌝ }
 {
     let number = width_refusal(t, width, n);
@@ -111,13 +111,13 @@ pub fn widen_refusal(t: ThermalImage, width: u32, n: usize) -> u8
     first(number, room_refusal(width, t.height, n))
 }
 
-pub fn out_refusal(t: ThermalImage, n: usize, room: usize) -> u8
+pub(crate) fn out_refusal(t: ThermalImage, n: usize, room: usize) -> u8
     ensures { λ r. ⌜ r ≡ outRefusal t n room ⌝ }
 {
     first(unsound(t, n), room_refusal(t.width, t.height, room))
 }
 
-pub fn rgb_refusal(t: ThermalImage, n: usize, room: usize) -> u8
+pub(crate) fn rgb_refusal(t: ThermalImage, n: usize, room: usize) -> u8
     ensures { λ r. ⌜ r ≡ rgbRefusal t n room ⌝ }
 {
     first(unsound(t, n), rgb_room_refusal(t.width, t.height, room))

@@ -5,7 +5,7 @@ ghost use Rattle.moves.specs.Moves.{turnedWide};
 ghost use Rattle.thermal_image.specs.Canvas.{rowsOf};
 use moves::Turn;
 
-pub fn rows_of(w: u32, h: u32) -> u32
+pub(crate) fn rows_of(w: u32, h: u32) -> u32
     ensures { λ r. ⌜ r ≡ rowsOf w h ⌝ }
 {
     if w == 0 {
@@ -14,7 +14,7 @@ pub fn rows_of(w: u32, h: u32) -> u32
     h
 }
 
-pub fn larger(a: u32, b: u32) -> u32
+pub(crate) fn larger(a: u32, b: u32) -> u32
     ensures { λ r. ⌜ r ≡ max a b ⌝ }
 {
     if a < b {
@@ -23,7 +23,7 @@ pub fn larger(a: u32, b: u32) -> u32
     a
 }
 
-pub fn turned_wide(by: Turn, w: u32, h: u32) -> u32
+pub(crate) fn turned_wide(by: Turn, w: u32, h: u32) -> u32
     ensures { λ r. ⌜ r ≡ turnedWide by w h ⌝ }
 {
     match by {
