@@ -1,19 +1,22 @@
 // A colour drawn on an area, blending or multiplying.
 ghost use mathlib.Core.Path.{_≡_};
+ghost use mathlib.Core.Bool.{true};
 ghost use Prim.Native.Nat.{_<_};
 ghost use lib.ListN.{length};
-ghost use Rattle.colour.specs.Colour.{blended, multiplied};
+ghost use Rattle.colour.specs.Colour.{multiplied};
 ghost use Rattle.dots.specs.Dots.{drawn};
-ghost use Rattle.dots.specs.Tables.{lanes, factors, terms, multiplyTable};
+ghost use Rattle.dots.specs.Tables.{lanes, factors, terms, Whole, multiplyTable};
 ghost use Rattle.areas.specs.Areas.{Fits, areaOn};
 use colour::RGBA;
 use dots::TABLE_DOTS;
-use dots::blend_factors;
-use dots::blend_run;
-use dots::blend_terms;
+use dots::covers;
 use dots::draw_run;
+use dots::mix_factors;
+use dots::mix_run;
+use dots::mix_terms;
 use dots::multiply_run;
 use dots::multiply_table;
+use dots::needs_floats;
 
 // Row by row, with nothing made beforehand.
 fn draw_rows(
@@ -36,7 +39,7 @@ fn draw_rows(
     }
 }
 
-fn blend_rows(
+fn mix_rows(
     buf: &mut [u8],
     wide: usize,
     x: usize,
@@ -44,16 +47,17 @@ fn blend_rows(
     w: usize,
     h: usize,
     c: RGBA,
+    multiply: bool,
     m: &[u16; 64],
     k: &[u16; 64],
 )
-    requires { ⌜ Fits wide x y w h (length (now buf)) × (0 < c .a) × (c .a < 255) ⌝ }
-    requires { ⌜ (now m ≡ lanes (factors c)) × (now k ≡ lanes (terms c)) ⌝ }
-    ensures { λ _. ⌜ now (buf .exit) ≡ areaOn wide x y w h (λ _ _ d. blended c d) (now (buf .entry)) ⌝ }
+    requires { ⌜ Fits wide x y w h (length (now buf)) × Whole multiply c ⌝ }
+    requires { ⌜ (now m ≡ lanes (factors multiply c)) × (now k ≡ lanes (terms multiply c)) ⌝ }
+    ensures { λ _. ⌜ now (buf .exit) ≡ areaOn wide x y w h (λ _ _ d. drawn multiply c d) (now (buf .entry)) ⌝ }
 {
     let mut j = 0;
     while j < h {
-        blend_run(buf, (y + j) * wide + x, w, c, m, k);
+        mix_run(buf, (y + j) * wide + x, w, c, multiply, m, k);
         j += 1;
     }
 }
@@ -81,6 +85,29 @@ fn multiply_rows(
     }
 }
 
+fn multiply_area(
+    buf: &mut [u8],
+    wide: usize,
+    x: usize,
+    y: usize,
+    w: usize,
+    h: usize,
+    c: RGBA,
+    multiply: bool,
+)
+    requires { ⌜ Fits wide x y w h (length (now buf)) × (0 < c .a) × (multiply ≡ true) ⌝ }
+    ensures { λ _. ⌜ now (buf .exit) ≡ areaOn wide x y w h (λ _ _ d. drawn multiply c d) (now (buf .entry)) ⌝ }
+{
+    if w * h < TABLE_DOTS {
+        draw_rows(buf, wide, x, y, w, h, c, multiply);
+        return;
+    }
+    let tr = multiply_table(c.r, c.a);
+    let tg = multiply_table(c.g, c.a);
+    let tb = multiply_table(c.b, c.a);
+    multiply_rows(buf, wide, x, y, w, h, c, &tr, &tg, &tb);
+}
+
 // What the colour needs is made once for the whole area.
 pub fn draw_area(
     buf: &mut [u8],
@@ -98,22 +125,15 @@ pub fn draw_area(
     if c.a == RGBA::TRANSPARENT {
         return;
     }
-    if multiply {
-        if w * h < TABLE_DOTS {
-            draw_rows(buf, wide, x, y, w, h, c, multiply);
-            return;
-        }
-        let tr = multiply_table(c.r, c.a);
-        let tg = multiply_table(c.g, c.a);
-        let tb = multiply_table(c.b, c.a);
-        multiply_rows(buf, wide, x, y, w, h, c, &tr, &tg, &tb);
+    if needs_floats(c, multiply) {
+        multiply_area(buf, wide, x, y, w, h, c, multiply);
         return;
     }
-    if c.a == RGBA::OPAQUE {
+    if covers(c, multiply) {
         draw_rows(buf, wide, x, y, w, h, c, multiply);
         return;
     }
-    let m = blend_factors(c);
-    let k = blend_terms(c);
-    blend_rows(buf, wide, x, y, w, h, c, &m, &k);
+    let m = mix_factors(c, multiply);
+    let k = mix_terms(c, multiply);
+    mix_rows(buf, wide, x, y, w, h, c, multiply, &m, &k);
 }

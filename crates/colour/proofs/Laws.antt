@@ -1,11 +1,12 @@
 -- Laws of the definitions of colour, for this crate and for callers. Assumes nothing.
 use mathlib.Core.Path.{_≡_, refl}
-use Prim.Native.Nat.{ℕ, _+_, _-_, _/_, _≤_}
+use Prim.Native.Nat.{ℕ, _+_, _-_, _*_, _/_, _≤_}
 use native.Mathlib.Omega.{arith}
 use borrow.Author.Tests.{eq-eqb, ne-eqb}
 use Rattle.colour.specs.declared.RGBA.{RGBA}
 use Rattle.colour.specs.Channel.{nearest, blendByte, multiplyByte}
 use Rattle.colour.specs.Colour.{rgba, blendedAt, multiplied}
+use Rattle.colour.proofs.Accurate.{at-full-alpha}
 
 -- two colours are equal by their parts
 pub rgba-eq : {c d : RGBA} → c .r ≡ d .r → c .g ≡ d .g → c .b ≡ d .b → c .a ≡ d .a → c ≡ d
@@ -44,3 +45,7 @@ pub multiplied-some : (c s : RGBA) {r g b : ℕ} → (c .a ≡ 0 → ⊥)
     → r ≡ multiplyByte (s .r) (c .r) (c .a) → g ≡ multiplyByte (s .g) (c .g) (c .a) → b ≡ multiplyByte (s .b) (c .b) (c .a) → rgba r g b (s .a) ≡ multiplied c s
 unfolding multiplied
 multiplied-some c s n er eg eb = rw (ne-eqb (c .a) 0 n, er, eg, eb)
+
+pub multiply-byte-full : (s c : ℕ) → s ≤ 255 → c ≤ 255 → multiplyByte s c 255 ≡ nearest (s * c) 255
+unfolding multiplyByte
+multiply-byte-full s c hs hc = at-full-alpha s c hs hc

@@ -2,7 +2,7 @@
 use mathlib.Core.Path.{_≡_, refl, sym, ap, _∙_}
 use mathlib.Core.Logic.{_≢_, _⊎_, inl, inr, ⊎-elim}
 use mathlib.Core.List.{List}
-use mathlib.Core.Bool.{Bool, true, false, _||_, or-true, or-false, and-false, true≢false}
+use mathlib.Core.Bool.{Bool, true, false, not, _||_, or-true, or-false, and-false, true≢false}
 use Prim.Native.Nat.{ℕ, zero, suc, _+_, _*_, _/_, _%_, _≤_, _<_}
 use native.Mathlib.Nat.{le-of-suc-le-suc, not-suc-le-zero, add-zero}
 use native.Mathlib.Omega.{arith}
@@ -15,6 +15,7 @@ use Rattle.colour.specs.declared.RGBA.{RGBA}
 use Rattle.colour.specs.Colour.{blended, multiplied}
 use Rattle.colour.proofs.Laws.{rgba-eq, blended-none, blended-full, multiplied-none}
 use Rattle.dots.specs.Dots.{dotAt, setDot, tab, chan, paint, change, within, drawn}
+use Rattle.dots.specs.Tables.{Whole, needsFloats, covers}
 
 -- a number is below another, or not
 by-test : (a b : ℕ) (t : Bool) → ltb a b ≡ t → (a < b) ⊎ (b ≤ a)
@@ -357,3 +358,22 @@ drawn-blended c s f = rw f
 pub drawn-multiplied : {t : Bool} (c s : RGBA) → t ≡ true → multiplied c s ≡ drawn t c s
 unfolding drawn
 drawn-multiplied c s f = rw f
+
+pub floats-multiply : (t : Bool) (c : RGBA) → needsFloats t c ≡ true → t ≡ true
+unfolding needsFloats
+floats-multiply true c e = refl
+floats-multiply false c e = absurd (true≢false (sym e))
+
+pub no-floats : (t : Bool) (c : RGBA) → 0 < c .a → needsFloats t c ≡ false → Whole t c
+unfolding needsFloats
+no-floats true c h e = record { some = h; full = λ f. go (eqb (c .a) 255) refl e }
+  where
+    go : (b : Bool) → eqb (c .a) 255 ≡ b → not b ≡ false → c .a ≡ 255
+    go true q z = eqb-true _ _ q
+    go false q z = absurd (true≢false z)
+no-floats false c h e = record { some = h; full = λ f. absurd (true≢false (sym f)) }
+
+pub covers-full : (t : Bool) (c s : RGBA) → covers t c ≡ true → c ≡ drawn t c s
+unfolding covers
+covers-full true c s e = absurd (true≢false (sym e))
+covers-full false c s e = drawn-full c s refl (eqb-true _ _ e)

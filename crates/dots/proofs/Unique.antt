@@ -5,9 +5,12 @@ use Rattle.dots.proofs.dot.get_dot.Reads as get-dot
 use Rattle.dots.proofs.dot.set_dot.Reads as set-dot
 use Rattle.dots.proofs.fill.fill_run.Reads as fill-run
 use Rattle.dots.proofs.draw.draw_run.Reads as draw-run
-use Rattle.dots.proofs.blend.blend_factors.Reads as blend-factors
-use Rattle.dots.proofs.blend.blend_terms.Reads as blend-terms
-use Rattle.dots.proofs.blend.blend_run.Reads as blend-run
+use Rattle.dots.proofs.draw.needs_floats.Reads as needs-floats
+use Rattle.dots.proofs.draw.covers.Reads as covers
+use Rattle.dots.proofs.mix.mix_byte.Reads as mix-byte
+use Rattle.dots.proofs.mix.mix_factors.Reads as mix-factors
+use Rattle.dots.proofs.mix.mix_terms.Reads as mix-terms
+use Rattle.dots.proofs.mix.mix_run.Reads as mix-run
 use Rattle.dots.proofs.multiply.multiply_table.Reads as multiply-table
 use Rattle.dots.proofs.multiply.multiply_run.Reads as multiply-run
 
@@ -23,14 +26,23 @@ fill-run-one k a x y e f p q = both p q
 draw-run-one : OneContent draw-run.Post (λ k e. now (e .0))
 draw-run-one k a x y e f p q = both p q
 
-blend-factors-one : OneAnswer blend-factors.Post
-blend-factors-one k a x y e f p q = both p q
+needs-floats-one : OneAnswer needs-floats.Post
+needs-floats-one k a x y e f p q = both p q
 
-blend-terms-one : OneAnswer blend-terms.Post
-blend-terms-one k a x y e f p q = both p q
+covers-one : OneAnswer covers.Post
+covers-one k a x y e f p q = both p q
 
-blend-run-one : OneContent blend-run.Post (λ k e. now (e .0))
-blend-run-one k a x y e f p q = both p q
+mix-byte-one : OneAnswer mix-byte.Post
+mix-byte-one k a x y e f p q = both p q
+
+mix-factors-one : OneAnswer mix-factors.Post
+mix-factors-one k a x y e f p q = both p q
+
+mix-terms-one : OneAnswer mix-terms.Post
+mix-terms-one k a x y e f p q = both p q
+
+mix-run-one : OneContent mix-run.Post (λ k e. now (e .0))
+mix-run-one k a x y e f p q = both p q
 
 multiply-table-one : OneAnswer multiply-table.Post
 multiply-table-one k a x y e f p q = both p q

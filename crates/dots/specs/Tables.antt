@@ -1,6 +1,10 @@
 -- The arrays that are made once for a colour and then drawn with over many dots.
 use mathlib.Core.List.{List}
-use Prim.Native.Nat.{ℕ, _+_, _-_, _*_, _%_}
+use mathlib.Core.Path.{_≡_}
+use mathlib.Core.Bool.{Bool, true, not, _&&_}
+use Prim.Native.Nat.{ℕ, _+_, _-_, _*_, _%_, _<_}
+use lib.Dec.{eqb}
+use Rattle.colour.specs.Choice.{if_then_else_}
 use Rattle.colour.specs.declared.RGBA.{RGBA}
 use Rattle.colour.specs.Channel.{multiplyByte}
 use Rattle.colour.specs.Colour.{rgba}
@@ -10,12 +14,27 @@ use Rattle.dots.specs.Dots.{tab, chan}
 unfoldable pub lanes : RGBA → List ℕ
 lanes x = tab 64 (λ j. chan x (j % 4))
 
--- a byte s under a translucent c becomes the whole number nearest (s·factor + term − 128) / 255. The alpha byte stays
-abbrev pub factors : RGBA → RGBA
-factors c = rgba (255 - c .a) (255 - c .a) (255 - c .a) 255
+-- a colour that is drawn by whole numbers: blending, or multiplying at full alpha
+pub record Whole (multiply : Bool) (c : RGBA) : Type 0 where
+  pub some : 0 < c .a
+  pub full : multiply ≡ true → c .a ≡ 255
 
-abbrev pub terms : RGBA → RGBA
-terms c = rgba (c .r * c .a + 128) (c .g * c .a + 128) (c .b * c .a + 128) 128
+-- multiplying below full alpha asks for the f32 operations
+unfoldable pub needsFloats : Bool → RGBA → Bool
+needsFloats multiply c = multiply && not (eqb (c .a) 255)
+
+-- an opaque colour that is blended covers what was there
+unfoldable pub covers : Bool → RGBA → Bool
+covers multiply c = not multiply && eqb (c .a) 255
+
+-- a byte s under a colour drawn by whole numbers becomes the whole number nearest (s·factor + term − 128) / 255. The alpha byte becomes 255 under an opaque blend, and else stays
+unfoldable pub factors : Bool → RGBA → RGBA
+factors multiply c = if multiply then rgba (c .r) (c .g) (c .b) 255 else rgba (255 - c .a) (255 - c .a) (255 - c .a) (if eqb (c .a) 255 then 0 else 255)
+
+unfoldable pub terms : Bool → RGBA → RGBA
+terms multiply c =
+    if multiply then rgba 128 128 128 128
+    else rgba (c .r * c .a + 128) (c .g * c .a + 128) (c .b * c .a + 128) (if eqb (c .a) 255 then c .a * c .a + 128 else 128)
 
 -- every byte multiplied by a channel c at alpha a
 unfoldable pub multiplyTable : ℕ → ℕ → List ℕ

@@ -1,14 +1,16 @@
 // A run of dots under a colour, blending or multiplying.
 ghost use mathlib.Core.Path.{_≡_};
-ghost use Prim.Native.Nat.{_+_, _*_, _≤_};
+ghost use mathlib.Core.Bool.{true};
+ghost use Prim.Native.Nat.{_+_, _*_, _≤_, _<_};
 ghost use lib.ListN.{length};
 ghost use Rattle.dots.specs.Dots.{change, within, drawn};
-use super::blend::blend_factors;
-use super::blend::blend_run;
-use super::blend::blend_terms;
+ghost use Rattle.dots.specs.Tables.{needsFloats, covers};
 use super::dot::get_dot;
 use super::dot::set_dot;
 use super::fill::fill_run;
+use super::mix::mix_factors;
+use super::mix::mix_run;
+use super::mix::mix_terms;
 use super::multiply::multiply_run;
 use super::multiply::multiply_table;
 use colour::RGBA;
@@ -37,11 +39,46 @@ fn draw_few(buf: &mut [u8], at: usize, count: usize, multiply: bool, c: RGBA)
     }
 }
 
-// From this many dots on, making the tables, or the arrays of a blend, and going by them is sooner
-// done than the dots one by one.
+// From this many dots on, making the tables of a colour and going by them is sooner done than the
+// dots one by one.
 pub const TABLE_DOTS: usize = 280;
 
-const LANE_DOTS: usize = 16;
+// The same for the arrays of whole numbers.
+const LANE_DOTS: usize = 8;
+
+// Multiplying below full alpha asks for the f32 operations. All else is done by whole numbers.
+pub fn needs_floats(c: RGBA, multiply: bool) -> bool
+    ensures { λ r. ⌜ r ≡ needsFloats multiply c ⌝ }
+{
+    if multiply {
+        return c.a != RGBA::OPAQUE;
+    }
+    false
+}
+
+// An opaque colour that is blended covers what was there.
+pub fn covers(c: RGBA, multiply: bool) -> bool
+    ensures { λ r. ⌜ r ≡ covers multiply c ⌝ }
+{
+    if multiply {
+        return false;
+    }
+    c.a == RGBA::OPAQUE
+}
+
+fn multiply_some(buf: &mut [u8], at: usize, count: usize, multiply: bool, c: RGBA)
+    requires { ⌜ ((at + count) * 4 ≤ length (now buf)) × (0 < c .a) × (multiply ≡ true) ⌝ }
+    ensures { λ _. ⌜ now (buf .exit) ≡ change (within at (at + count)) (λ _ s. drawn multiply c s) (now (buf .entry)) ⌝ }
+{
+    if count < TABLE_DOTS {
+        draw_few(buf, at, count, multiply, c);
+        return;
+    }
+    let tr = multiply_table(c.r, c.a);
+    let tg = multiply_table(c.g, c.a);
+    let tb = multiply_table(c.b, c.a);
+    multiply_run(buf, at, count, c, &tr, &tg, &tb);
+}
 
 pub fn draw_run(buf: &mut [u8], at: usize, count: usize, multiply: bool, c: RGBA)
     requires { ⌜ (at + count) * 4 ≤ length (now buf) ⌝ }
@@ -50,18 +87,11 @@ pub fn draw_run(buf: &mut [u8], at: usize, count: usize, multiply: bool, c: RGBA
     if c.a == RGBA::TRANSPARENT {
         return;
     }
-    if multiply {
-        if count < TABLE_DOTS {
-            draw_few(buf, at, count, multiply, c);
-            return;
-        }
-        let tr = multiply_table(c.r, c.a);
-        let tg = multiply_table(c.g, c.a);
-        let tb = multiply_table(c.b, c.a);
-        multiply_run(buf, at, count, c, &tr, &tg, &tb);
+    if needs_floats(c, multiply) {
+        multiply_some(buf, at, count, multiply, c);
         return;
     }
-    if c.a == RGBA::OPAQUE {
+    if covers(c, multiply) {
         fill_run(buf, at, count, c);
         return;
     }
@@ -69,7 +99,7 @@ pub fn draw_run(buf: &mut [u8], at: usize, count: usize, multiply: bool, c: RGBA
         draw_few(buf, at, count, multiply, c);
         return;
     }
-    let m = blend_factors(c);
-    let k = blend_terms(c);
-    blend_run(buf, at, count, c, &m, &k);
+    let m = mix_factors(c, multiply);
+    let k = mix_terms(c, multiply);
+    mix_run(buf, at, count, c, multiply, &m, &k);
 }

@@ -1,9 +1,9 @@
 -- `areas::draw::draw_area` meets its contract. Assumes nothing.
 use native.Mathlib.Omega.{arith}
+use mathlib.Core.Path.{sym, _∙_}
+use Rattle.dots.proofs.Laws.{drawn-none, floats-multiply, no-floats}
+use Rattle.areas.proofs.Laws.{area-idle}
 use borrow.Author.Needs.{needs}
-use mathlib.Core.Path.{_∙_}
-use Rattle.dots.proofs.Laws.{drawn-none, drawn-blended, drawn-multiplied}
-use Rattle.areas.proofs.Laws.{area-size, area-idle, area-by}
 use Rattle.areas.proofs.draw.draw_area.Statement.{statement}
 use Rattle.areas.proofs.draw.draw_area.Tie as tie
 
@@ -12,86 +12,64 @@ returns c =
     let a = c .before .before .before .args in
     area-idle _ _ _ _ _ _ (a .buf .now) (λ i j u v. drawn-none (a .multiply) (a .c) _ (c .if1 .taken))
 
-mul-if3 : tie.Need-mul-if3
-mul-if3 c = omega (arith, area-size (c .before .before .before .before .pre))
+needs-floats-requires : tie.Need-needs-floats-requires
+needs-floats-requires c κs = search needs
 
-draw-rows-requires : tie.Need-draw-rows-requires
-draw-rows-requires c κs = search needs
+multiply-area-requires : tie.Need-multiply-area-requires
+multiply-area-requires c κs =
+    (c .before .before .before .before .before .before .pre, omega arith, floats-multiply _ _ (sym (c .before .before .needs-floats .ensures) ∙ c .before .if2 .taken))
 
 same-length : tie.Need-same-length
-same-length c = omega arith
+same-length c = search needs
 
 returns-2 : tie.Need-returns-2
 returns-2 c = search needs
 
-multiply-table-requires : tie.Need-multiply-table-requires
-multiply-table-requires c κs = search needs
+covers-requires : tie.Need-covers-requires
+covers-requires c κs = search needs
 
-multiply-table-requires-2 : tie.Need-multiply-table-requires-2
-multiply-table-requires-2 c κs = search needs
-
-multiply-table-requires-3 : tie.Need-multiply-table-requires-3
-multiply-table-requires-3 c κs = search needs
-
-multiply-rows-requires : tie.Need-multiply-rows-requires
-multiply-rows-requires c κs = search needs
+draw-rows-requires : tie.Need-draw-rows-requires
+draw-rows-requires c κs = search needs
 
 same-length-2 : tie.Need-same-length-2
-same-length-2 c = omega arith
+same-length-2 c = search needs
 
 returns-3 : tie.Need-returns-3
-returns-3 c =
-    let t = c .before .before .before .before .before .before .before .before .before .before .before in
-    let a = t .before .before .before .before .args in
-    c .before .before .multiply-rows .ensures ∙ area-by _ _ _ _ _ _ (a .buf .now) _ (λ i j u v. drawn-multiplied (a .c) _ (t .if2 .taken))
+returns-3 c = search needs
 
-draw-rows-requires-2 : tie.Need-draw-rows-requires-2
-draw-rows-requires-2 c κs = search needs
+mix-factors-requires : tie.Need-mix-factors-requires
+mix-factors-requires c κs = search needs
+
+mix-terms-requires : tie.Need-mix-terms-requires
+mix-terms-requires c κs = search needs
+
+mix-rows-requires : tie.Need-mix-rows-requires
+mix-rows-requires c κs =
+    let t = c .before .before .before in
+    let w = t .before .before .before .before in
+    ((w .before .before .before .before .before .pre, no-floats _ _ (omega arith) (sym (w .before .needs-floats .ensures) ∙ w .if2 .left)), (t .before .mix-factors .ensures, t .mix-terms .ensures))
 
 same-length-3 : tie.Need-same-length-3
-same-length-3 c = omega arith
+same-length-3 c = search needs
 
 returns-4 : tie.Need-returns-4
 returns-4 c = search needs
-
-blend-factors-requires : tie.Need-blend-factors-requires
-blend-factors-requires c κs = search needs
-
-blend-terms-requires : tie.Need-blend-terms-requires
-blend-terms-requires c κs = search needs
-
-blend-rows-requires : tie.Need-blend-rows-requires
-blend-rows-requires c κs = search needs
-
-same-length-4 : tie.Need-same-length-4
-same-length-4 c = omega arith
-
-returns-5 : tie.Need-returns-5
-returns-5 c =
-    let t = c .before .before .before .before .before .before .before .before .before .before in
-    let a = t .before .before .before .before .args in
-    c .before .before .blend-rows .ensures ∙ area-by _ _ _ _ _ _ (a .buf .now) _ (λ i j u v. drawn-blended (a .c) _ (t .if2 .left))
 
 pub draw-area-spec : {M : Type 1} → statement M
 draw-area-spec =
     tie.close
     (tie.spec
     returns
-    mul-if3
-    draw-rows-requires
+    needs-floats-requires
+    multiply-area-requires
     same-length
     returns-2
-    multiply-table-requires
-    multiply-table-requires-2
-    multiply-table-requires-3
-    multiply-rows-requires
+    covers-requires
+    draw-rows-requires
     same-length-2
     returns-3
-    draw-rows-requires-2
+    mix-factors-requires
+    mix-terms-requires
+    mix-rows-requires
     same-length-3
-    returns-4
-    blend-factors-requires
-    blend-terms-requires
-    blend-rows-requires
-    same-length-4
-    returns-5)
+    returns-4)

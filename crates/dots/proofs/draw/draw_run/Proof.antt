@@ -1,8 +1,8 @@
--- `dots::draw_run` meets its contract. Assumes nothing.
+-- `dots::draw::draw_run` meets its contract. Assumes nothing.
 use native.Mathlib.Omega.{arith}
+use mathlib.Core.Path.{sym, _∙_}
+use Rattle.dots.proofs.Laws.{change-idle, change-by, drawn-none, floats-multiply, no-floats, covers-full}
 use borrow.Author.Needs.{needs}
-use mathlib.Core.Path.{_∙_}
-use Rattle.dots.proofs.Laws.{change-idle, change-by, drawn-none, drawn-full, drawn-blended, drawn-multiplied}
 use Rattle.dots.proofs.draw.draw_run.Statement.{statement}
 use Rattle.dots.proofs.draw.draw_run.Tie as tie
 
@@ -11,8 +11,11 @@ returns c =
     let a = c .before .before .before .args in
     change-idle _ _ (a .buf .now) (λ i e. drawn-none (a .multiply) (a .c) _ (c .if1 .taken))
 
-draw-few-requires : tie.Need-draw-few-requires
-draw-few-requires c κs = search needs
+needs-floats-requires : tie.Need-needs-floats-requires
+needs-floats-requires c κs = search needs
+
+multiply-some-requires : tie.Need-multiply-some-requires
+multiply-some-requires c κs = (omega arith, omega arith, floats-multiply _ _ (sym (c .before .before .needs-floats .ensures) ∙ c .before .if2 .taken))
 
 same-length : tie.Need-same-length
 same-length c = search needs
@@ -20,44 +23,41 @@ same-length c = search needs
 returns-2 : tie.Need-returns-2
 returns-2 c = search needs
 
-multiply-table-requires : tie.Need-multiply-table-requires
-multiply-table-requires c κs = search needs
+covers-requires : tie.Need-covers-requires
+covers-requires c κs = search needs
 
-multiply-table-requires-2 : tie.Need-multiply-table-requires-2
-multiply-table-requires-2 c κs = search needs
-
-multiply-table-requires-3 : tie.Need-multiply-table-requires-3
-multiply-table-requires-3 c κs = search needs
-
-multiply-run-requires : tie.Need-multiply-run-requires
-multiply-run-requires c κs =
-    let t = c .before .before .before .before in
-    (omega arith, (t .before .before .multiply-table .ensures, t .before .multiply-table2 .ensures, t .multiply-table3 .ensures))
+fill-run-requires : tie.Need-fill-run-requires
+fill-run-requires c κs = search needs
 
 same-length-2 : tie.Need-same-length-2
 same-length-2 c = search needs
 
 returns-3 : tie.Need-returns-3
 returns-3 c =
-    let t = c .before .before .before .before .before .before .before .before .before .before .before in
-    let a = t .before .before .before .before .args in
-    c .before .before .multiply-run .ensures ∙ change-by _ _ _ (a .buf .now) (λ i e. drawn-multiplied (a .c) _ (t .if2 .taken))
+    let f = c .before .before .before .before in
+    let a = f .before .before .before .before .before .before .before .args in
+    c .before .before .fill-run .ensures ∙ change-by _ _ _ (a .buf .now) (λ i z. covers-full (a .multiply) (a .c) _ (sym (f .before .covers .ensures) ∙ f .if3 .taken))
 
-fill-run-requires : tie.Need-fill-run-requires
-fill-run-requires c κs = search needs
+draw-few-requires : tie.Need-draw-few-requires
+draw-few-requires c κs = search needs
 
 same-length-3 : tie.Need-same-length-3
 same-length-3 c = search needs
 
 returns-4 : tie.Need-returns-4
-returns-4 c =
-    let f = c .before .before .before .before in
-    let t = f .before .before in
-    let a = t .before .before .before .before .args in
-    c .before .before .fill-run .ensures ∙ change-by _ _ _ (a .buf .now) (λ i e. drawn-full (a .c) _ (t .if2 .left) (f .if4 .taken))
+returns-4 c = search needs
 
-draw-few-requires-2 : tie.Need-draw-few-requires-2
-draw-few-requires-2 c κs = search needs
+mix-factors-requires : tie.Need-mix-factors-requires
+mix-factors-requires c κs = search needs
+
+mix-terms-requires : tie.Need-mix-terms-requires
+mix-terms-requires c κs = search needs
+
+mix-run-requires : tie.Need-mix-run-requires
+mix-run-requires c κs =
+    let t = c .before .before .before in
+    let w = t .before .before .before .before .before in
+    ((omega arith, no-floats _ _ (omega arith) (sym (w .before .needs-floats .ensures) ∙ w .if2 .left)), (t .before .mix-factors .ensures, t .mix-terms .ensures))
 
 same-length-4 : tie.Need-same-length-4
 same-length-4 c = search needs
@@ -65,48 +65,24 @@ same-length-4 c = search needs
 returns-5 : tie.Need-returns-5
 returns-5 c = search needs
 
-blend-factors-requires : tie.Need-blend-factors-requires
-blend-factors-requires c κs = search needs
-
-blend-terms-requires : tie.Need-blend-terms-requires
-blend-terms-requires c κs = search needs
-
-blend-run-requires : tie.Need-blend-run-requires
-blend-run-requires c κs =
-    let t = c .before .before .before in
-    (omega arith, (t .before .blend-factors .ensures, t .blend-terms .ensures))
-
-same-length-5 : tie.Need-same-length-5
-same-length-5 c = search needs
-
-returns-6 : tie.Need-returns-6
-returns-6 c =
-    let t = c .before .before .before .before .before .before .before .before .before .before .before in
-    let a = t .before .before .before .before .args in
-    c .before .before .blend-run .ensures ∙ change-by _ _ _ (a .buf .now) (λ i e. drawn-blended (a .c) _ (t .if2 .left))
-
 pub draw-run-spec : {M : Type 1} → statement M
 draw-run-spec =
     tie.close
     (tie.spec
     returns
-    draw-few-requires
+    needs-floats-requires
+    multiply-some-requires
     same-length
     returns-2
-    multiply-table-requires
-    multiply-table-requires-2
-    multiply-table-requires-3
-    multiply-run-requires
+    covers-requires
+    fill-run-requires
     same-length-2
     returns-3
-    fill-run-requires
+    draw-few-requires
     same-length-3
     returns-4
-    draw-few-requires-2
+    mix-factors-requires
+    mix-terms-requires
+    mix-run-requires
     same-length-4
-    returns-5
-    blend-factors-requires
-    blend-terms-requires
-    blend-run-requires
-    same-length-5
-    returns-6)
+    returns-5)

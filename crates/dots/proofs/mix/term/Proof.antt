@@ -3,8 +3,8 @@ use native.Mathlib.Omega.{arith}
 use native.Mathlib.Nat.{mul-le-mul-right}
 use borrow.Author.Needs.{needs}
 use Prim.Native.Nat.{_*_, _≤_}
-use Rattle.dots.proofs.blend.term.Statement.{statement}
-use Rattle.dots.proofs.blend.term.Tie as tie
+use Rattle.dots.proofs.mix.term.Statement.{statement}
+use Rattle.dots.proofs.mix.term.Tie as tie
 
 low : (c : tie.Start) → c .args .c * c .args .a ≤ 255 * c .args .a
 low c = mul-le-mul-right (c .args .a) (omega arith)

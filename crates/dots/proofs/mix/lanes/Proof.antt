@@ -10,8 +10,8 @@ use Rattle.dots.specs.Tables.{lanes}
 use Rattle.dots.proofs.Laws.{tab-ext}
 use Rattle.dots.proofs.Bytes.{fill-step}
 use Rattle.dots.proofs.Mixed.{four-at}
-use Rattle.dots.proofs.blend.lanes.Statement.{statement}
-use Rattle.dots.proofs.blend.lanes.Tie as tie
+use Rattle.dots.proofs.mix.lanes.Statement.{statement}
+use Rattle.dots.proofs.mix.lanes.Tie as tie
 
 abbrev Inv-loop : tie.InvT-loop
 Inv-loop x y z w four p₀ j₀ p j =
