@@ -1,0 +1,5 @@
+mod Joining
+pub mod Rows
+mod Unpacking
+mod Stamping
+mod Unique

@@ -1,0 +1,9 @@
+// Rows of bits as dots of a lent buffer, eight dots at a time. Inner steps, each over dots and bits
+// that its caller knows to be there.
+mod gather;
+mod stamp;
+mod unpack;
+
+pub use gather::dot_bits;
+pub use stamp::stamp_row;
+pub use unpack::unpack_row;
