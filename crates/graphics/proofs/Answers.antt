@@ -11,7 +11,8 @@ use Rattle.colour.specs.declared.RGBA.{RGBA}
 use Rattle.graphics.specs.declared.formats.Format.{Format}
 use Rattle.graphics.specs.Formats.{bytesOf, rasterOf}
 use Rattle.graphics.specs.Decoding.{factor, lacksRoom, answer, output}
-use Rattle.graphics.specs.Steps.{Sound, Layered, landed, pictureOn}
+use Rattle.bits.specs.Bits.{landed}
+use Rattle.graphics.specs.Steps.{Sound, Layered, pictureOn}
 use Rattle.graphics.proofs.Codes.{Small, Layers}
 
 -- ---- a stretch factor

@@ -8,7 +8,8 @@ use Rattle.colour.specs.declared.RGBA.{RGBA}
 use Rattle.colour.specs.Channel.{blendByte, product, roundAway, multiplyByte}
 use Rattle.colour.specs.Colour.{rgba, withAlpha}
 use Rattle.graphics.specs.declared.formats.Format.the-variants.{Bits, Columns}
-use Rattle.graphics.specs.Formats.{bitAlpha, alphaOf, bytesOf}
+use Rattle.bits.specs.Bits.{bitAlpha}
+use Rattle.graphics.specs.Formats.{alphaOf, bytesOf}
 use Rattle.graphics.specs.Decoding.{factor, isLarge, lacksRoom, refusal, answer, decoded}
 use Rattle.graphics.specs.Layers.{layerBytes, outgrown, layersRefusal, merged}
 

@@ -17,7 +17,8 @@ use Rattle.dots.proofs.Laws.{change-over, length-change}
 use Rattle.graphics.specs.declared.scale.Source.{Source}
 use Rattle.graphics.specs.Formats.{rasterOf}
 use Rattle.graphics.specs.Layers.{layerBytes, layerStart, layerColor, layerData, layerPixel, mergedPixel}
-use Rattle.graphics.specs.Steps.{Sound, Layered, inColor, landed, sourcePixel, pictureOn}
+use Rattle.bits.specs.Bits.{landed}
+use Rattle.graphics.specs.Steps.{Sound, Layered, inColor, sourcePixel, pictureOn}
 
 -- ---- one layer
 

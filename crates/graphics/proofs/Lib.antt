@@ -1,5 +1,4 @@
 mod Places
-mod Unpacking
 mod Scaling
 mod Codes
 mod Answers

@@ -6,7 +6,8 @@ use native.Mathlib.Numerals.{add-one-le}
 use native.Mathlib.Omega.{arith}
 use Rattle.graphics.specs.declared.formats.Format.{Format}
 use Rattle.graphics.specs.declared.formats.Format.the-variants.{Bits, Alphas, Columns}
-use Rattle.graphics.specs.Formats.{rowBytes, bytesOf}
+use Rattle.bits.specs.Bits.{rowBytes}
+use Rattle.graphics.specs.Formats.{bytesOf}
 
 -- the byte for column x, row y
 abbrev pub place : Format → ℕ → ℕ → ℕ → ℕ → ℕ

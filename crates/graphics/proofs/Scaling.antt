@@ -15,11 +15,12 @@ use Rattle.dots.proofs.Laws.{run-none, run-turn, run-more, length-change, chang
 use Rattle.dots.proofs.Blocks.{in-block, in-row}
 use Rattle.graphics.specs.declared.scale.Source.{Source}
 use Rattle.graphics.specs.declared.formats.Format.the-variants.{Bits}
-use Rattle.graphics.specs.Formats.{rowBytes, alphaOf, bytesOf}
+use Rattle.bits.specs.Bits.{rowBytes, Shown, bitsOn, pixelLanded}
+use Rattle.graphics.specs.Formats.{alphaOf, bytesOf}
 use Rattle.graphics.specs.Decoding.{pixelOf}
-use Rattle.graphics.specs.Steps.{Sound, Above, repeated, landed, sourcePixel, rowOn, pictureOn}
+use Rattle.bits.specs.Bits.{landed}
+use Rattle.graphics.specs.Steps.{Sound, Above, repeated, sourcePixel, rowOn, pictureOn}
 use Rattle.graphics.proofs.Places.{line-fits, row-in-data}
-use Rattle.graphics.proofs.Unpacking.{bitsDot}
 
 -- ---- what a sound source gives to read a dot
 
@@ -182,12 +183,15 @@ repeat-is-row s bytes blend at j out a e em =
     let o : at - s .w * s .fx + s .w * s .fx ≡ at = omega (arith, a .room e) in
     em ∙ rw (o, is-repeated j (s .fy) blend e .0) (change-by _ _ _ out (λ i w. let b = within-true at (at + s .w * s .fx) i w in a .dots e i (b .0) (b .1)))
 
--- ---- a row of bits that are not stretched
+-- ---- a row of bits
 
 pub bits-in-data : (s : Source) {n j row : ℕ} → Sound s n → j < s .h * s .fy → s .format ≡ Bits → row ≡ rowBytes (s .w) → j / s .fy * row + rowBytes (s .w) ≤ n
 bits-in-data s o hj e er = rw er (row-in-data (s .w) (s .h) _ e (div-lt-iff-lt-mul (o .fy) .1 hj) (o .bytes))
 
-pub bits-is-row : (s : Source) (bytes : List ℕ) (blend : Bool) (at j : ℕ) (out : List ℕ) → (s .format ≡ Bits) × (s .fx ≡ 1) → {row : ℕ} → row ≡ rowBytes (s .w)
-    → {m : List ℕ} → m ≡ change (within at (at + s .w)) (bitsDot bytes at (j / s .fy * row) (s .color) blend) out → m ≡ rowOn at (s .w * s .fx) blend (sourcePixel s bytes) j out
-unfolding rowOn sourcePixel pixelOf alphaOf
-bits-is-row s bytes blend at j out e er em = em ∙ simp (er, e .0, e .1, mul-one, div-one)
+pub bits-shown : (s : Source) {n j row : ℕ} → Sound s n → j < s .h * s .fy → s .format ≡ Bits → row ≡ rowBytes (s .w) → Shown (j / s .fy * row) (s .fx) (s .w * s .fx) n
+bits-shown s o hj e er i h = omega (arith, bits-in-data s o hj e er, div-lt-iff-lt-mul (o .fx) .1 h)
+
+pub bits-is-row : (s : Source) (bytes : List ℕ) (blend : Bool) (at j : ℕ) (out : List ℕ) → s .format ≡ Bits → {row : ℕ} → row ≡ rowBytes (s .w)
+    → {m : List ℕ} → m ≡ bitsOn (pixelLanded blend (s .color)) bytes (j / s .fy * row) (s .fx) at (s .w * s .fx) out → m ≡ rowOn at (s .w * s .fx) blend (sourcePixel s bytes) j out
+unfolding rowOn sourcePixel pixelOf alphaOf bitsOn
+bits-is-row s bytes blend at j out e er em = em ∙ rw (er, e)

@@ -1,18 +1,11 @@
 -- What the data of an image say: the alpha of each source dot, and how many bytes that takes. 01, "Decoding".
-use Prim.Native.Nat.{ℕ, _+_, _-_, _*_, _/_, _%_, _^_}
+use Prim.Native.Nat.{ℕ, _+_, _*_, _/_}
 use mathlib.Core.Bool.{Bool, true, false}
 use mathlib.Core.List.{List}
 use lib.ListN.{getD}
+use Rattle.bits.specs.Bits.{rowBytes, bitAlpha}
 use Rattle.graphics.specs.declared.formats.Format.{Format}
 use Rattle.graphics.specs.declared.formats.Format.the-variants.{Bits, Alphas, Columns}
-
--- the bytes of a row of w bits: ceil(w/8)
-abbrev pub rowBytes : ℕ → ℕ
-rowBytes w = (w + 7) / 8
-
--- bit k from byte `at` on, top bit first: 1 is 255 and 0 is 0
-unfoldable pub bitAlpha : List ℕ → ℕ → ℕ → ℕ
-bitAlpha bytes at k = getD bytes (at + k / 8) 0 / 2 ^ (7 - k % 8) % 2 * 255
 
 -- the alpha of the dot at column x, row y of a w by h image. In bit rows the spare low bits of a row's last byte are no dot's; a column image has a column at a time, and dot (x, y) is bit y of column x
 unfoldable pub alphaOf : Format → List ℕ → ℕ → ℕ → ℕ → ℕ → ℕ

@@ -9,6 +9,7 @@ use Rattle.colour.specs.Choice.{if_then_else_}
 use Rattle.colour.specs.Colour.{blended}
 use Rattle.colour.specs.declared.RGBA.{RGBA}
 use Rattle.dots.specs.Dots.{dotAt, change, within}
+use Rattle.bits.specs.Bits.{landed}
 use Rattle.graphics.specs.declared.scale.Source.{Source}
 use Rattle.graphics.specs.Formats.{bytesOf, rasterOf}
 use Rattle.graphics.specs.Decoding.{pixelOf}
@@ -31,10 +32,6 @@ pub record Layered (bits : Bool) (s : Source) (n size : ℕ) : Type 0 where
   pub format : s .format ≡ rasterOf bits
   pub sound : Sound s (layerBytes bits (s .w) (s .h))
   pub whole : n * (1 + layerBytes bits (s .w) (s .h)) ≤ size
-
--- a pixel p put, or blended onto the dot d
-unfoldable pub landed : Bool → RGBA → RGBA → RGBA
-landed blend p d = if blend then blended p d else p
 
 -- where row j is put and shows the source dots of the row above it
 unfoldable pub repeated : ℕ → ℕ → Bool → Bool

@@ -3,7 +3,8 @@ ghost use mathlib.Core.Path.{_≡_};
 ghost use Prim.Native.Nat.{_+_, _*_, _/_, _≤_, _<_};
 ghost use lib.ListN.{length};
 ghost use Rattle.numbers.specs.Numbers.{limit};
-ghost use Rattle.graphics.specs.Formats.{rowBytes, bitAlpha, alphaOf, bytesOf, rasterOf};
+ghost use Rattle.bits.specs.Bits.{rowBytes, bitAlpha};
+ghost use Rattle.graphics.specs.Formats.{alphaOf, bytesOf, rasterOf};
 
 pub enum Format {
     Bits,

@@ -1,6 +1,5 @@
 // Decoding of printer images, as in the Rust's graphics.rs: raster, column and layered images
 // become dots in an output that the caller lends.
-mod bits;
 mod formats;
 mod layers;
 mod refusals;

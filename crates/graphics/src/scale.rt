@@ -4,11 +4,12 @@ ghost use mathlib.Core.Bool.{true};
 ghost use Prim.Native.Nat.{_+_, _-_, _*_, _/_, _≤_, _<_};
 ghost use lib.ListN.{length};
 ghost use Rattle.dots.specs.Dots.{dotAt, setDot, change, within};
-ghost use Rattle.graphics.specs.Steps.{Sound, inColor, repeated, landed, sourcePixel, Above, rowOn, pictureOn};
-use super::bits::unpack_row;
+ghost use Rattle.bits.specs.Bits.{landed};
+ghost use Rattle.graphics.specs.Steps.{Sound, inColor, repeated, sourcePixel, Above, rowOn, pictureOn};
 use super::formats::Format;
 use super::formats::alpha_at;
 use super::formats::row_bytes;
+use bits::unpack_row;
 use colour::RGBA;
 use dots::draw_run;
 use dots::fill_run;
@@ -111,13 +112,12 @@ fn repeats(j: usize, fy: usize, blend: bool) -> bool
     j % fy != 0
 }
 
-// Bits that are not stretched have a way of their own, which is sooner done.
-fn plain_bits(source: Source) -> bool
-    ensures { λ r. ⌜ (r ≡ true → (source .format ≡ Format.Bits) × (source .fx ≡ 1)) ⌝ }
+// Rows of bits have a way of their own, which is sooner done.
+fn is_bits(format: Format) -> bool
+    ensures { λ r. ⌜ (r ≡ true → format ≡ Format.Bits) ⌝ }
 {
-    let format = source.format;
     match format {
-        Format::Bits => source.fx == 1,
+        Format::Bits => true,
         Format::Alphas => false,
         Format::Columns => false,
     }
@@ -134,9 +134,11 @@ fn draw_row(out: &mut [u8], at: usize, data: &[u8], source: Source, j: usize, bl
         move_run(out, at - wide, wide, wide);
         return;
     }
-    if plain_bits(source) {
+    let format = source.format;
+    if is_bits(format) {
+        let wide = source.w * source.fx;
         let from = j / source.fy * row_bytes(source.w);
-        unpack_row(out, at, data, from, source.w, source.color, blend);
+        unpack_row(out, at, wide, data, from, source.fx, source.color, blend);
         return;
     }
     if source.fx == 1 {

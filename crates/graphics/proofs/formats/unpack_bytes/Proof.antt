@@ -1,6 +1,6 @@
 -- `graphics::formats::unpack_bytes` meets its contract. Assumes nothing.
 use mathlib.Core.Path.{refl}
-use Rattle.graphics.specs.Formats.{bitAlpha}
+use Rattle.bits.specs.Bits.{bitAlpha}
 use borrow.Author.Needs.{needs}
 use Rattle.graphics.proofs.formats.unpack_bytes.Statement.{statement}
 use Rattle.graphics.proofs.formats.unpack_bytes.Tie as tie

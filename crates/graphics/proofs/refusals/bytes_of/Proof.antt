@@ -1,7 +1,8 @@
 -- `graphics::refusals::bytes_of` meets its contract. Assumes nothing.
 use mathlib.Core.Path.{refl}
 use native.Mathlib.Omega.{arith}
-use Rattle.graphics.specs.Formats.{rowBytes, bytesOf}
+use Rattle.bits.specs.Bits.{rowBytes}
+use Rattle.graphics.specs.Formats.{bytesOf}
 use Rattle.graphics.proofs.Codes.{area}
 use borrow.Author.Needs.{needs}
 use Rattle.graphics.proofs.refusals.bytes_of.Statement.{statement}

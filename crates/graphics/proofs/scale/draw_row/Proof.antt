@@ -1,32 +1,32 @@
 -- `graphics::scale::draw_row` meets its contract. Assumes nothing.
 use mathlib.Core.Path.{_≡_, sym, _∙_}
 use mathlib.Core.Bool.{true}
-use Prim.Native.Nat.{_+_, _*_, _/_, _≤_}
-use native.Mathlib.Nat.{mul-one}
 use native.Mathlib.Omega.{arith}
-use lib.ListN.{length}
-use denote.Ref.{now}
 use Rattle.graphics.specs.Steps.{repeated}
 use Rattle.graphics.specs.declared.formats.Format.the-variants.{Bits}
-use Rattle.graphics.specs.Formats.{rowBytes}
-use Rattle.graphics.proofs.Scaling.{sides, repeat-is-row, bits-in-data, bits-is-row}
+use Rattle.graphics.proofs.Scaling.{sides, repeat-is-row, bits-in-data, bits-shown, bits-is-row}
 use borrow.Author.Needs.{needs}
 use Rattle.graphics.proofs.scale.draw_row.Statement.{statement}
 use Rattle.graphics.proofs.scale.draw_row.Tie as tie
+use Rattle.graphics.proofs.scale.draw_row.Reads as reads
+use Rattle.graphics.proofs.scale.draw_row.Lts as lts
+use Rattle.bits.proofs.unpack_row.Reads as unpack-row-reads
+use Rattle.graphics.proofs.formats.row_bytes.Reads as row-bytes-reads
+use Rattle.graphics.proofs.scale.is_bits.Reads as is-bits-reads
+use Rattle.graphics.proofs.scale.plain_pixels.Reads as plain-pixels-reads
+use Rattle.graphics.proofs.scale.repeats.Reads as repeats-reads
+use Rattle.graphics.proofs.scale.scale_pixels.Reads as scale-pixels-reads
+use Rattle.moves.proofs.move_run.Reads as move-run-reads
 
 again : (c : tie.Then1) → repeated (c .before .before .before .before .args .j) (c .before .before .before .before .args .source .fy) (c .before .before .before .before .args .blend) ≡ true
 again c = sym (c .before .repeats .ensures) ∙ c .if1 .taken
 
-plain : (c : tie.Then2) → (c .before .before .before .before .before .before .args .source .format ≡ Bits) × (c .before .before .before .before .before .before .args .source .fx ≡ 1)
-plain c = c .before .plain-bits .ensures (c .if2 .taken)
+-- where a row of bits is begun, and that it is one
+abbrev bits-begun : tie.After-struct-known3 → tie.Start
+bits-begun c = c .before .before .before .before .before .before .before .before
 
-in-data : (c : tie.After-row-bytes)
-    → let s = c .before .before .before .before .before .before .before .before .args in
-    s .j / s .source .fy * c .row-bytes .result + rowBytes (s .source .w) ≤ length (now (s .«data»))
-in-data c =
-    let t = c .before .before in
-    let s = t .before .before .before .before .before .before in
-    bits-in-data (s .args .source) (s .pre .0) (s .pre .1 .0 .0) (plain t .0) (c .row-bytes .ensures)
+of-bits : (c : tie.After-struct-known3) → bits-begun c .args .source .format ≡ Bits
+of-bits c = let t = c .before .before in t .before .is-bits .ensures (t .if2 .taken)
 
 repeats-requires : tie.Need-repeats-requires
 repeats-requires c κs = c .before .before .pre .0 .fy
@@ -53,24 +53,30 @@ returns c =
     let s = t .before .before .before .before in
     repeat-is-row _ _ _ _ _ _ (s .pre .1 .1) (again t) (d .move-run .ensures)
 
-plain-bits-requires : tie.Need-plain-bits-requires
-plain-bits-requires c κs = search needs
+is-bits-requires : tie.Need-is-bits-requires
+is-bits-requires c κs = search needs
+
+mul-wide-2 : tie.Need-mul-wide-2
+mul-wide-2 c = search needs
 
 div-from : tie.Need-div-from
 div-from c = search needs
 
 row-bytes-requires : tie.Need-row-bytes-requires
-row-bytes-requires c κs = let s = c .before .before .before .before .before .before .before in sides (s .args .source) (s .pre .0) .0
+row-bytes-requires c κs = let s = bits-begun c in sides (s .args .source) (s .pre .0) .0
 
 mul-from : tie.Need-mul-from
-mul-from c = omega (arith, in-data c)
+mul-from c =
+    let b = c .before in
+    let s = bits-begun b in
+    omega (arith, bits-in-data (s .args .source) (s .pre .0) (s .pre .1 .0 .0) (of-bits b) (c .row-bytes .ensures))
 
 unpack-row-requires : tie.Need-unpack-row-requires
 unpack-row-requires c κs =
-    let b = c .before in
-    let t = b .before .before in
-    let s = t .before .before .before .before .before .before in
-    (rw (plain t .1, mul-one) at (s .pre .1 .0 .1), in-data b)
+    let r = c .before in
+    let b = r .before in
+    let s = bits-begun b in
+    (s .pre .1 .0 .1, s .pre .0 .fx, s .pre .0 .wide, bits-shown (s .args .source) (s .pre .0) (s .pre .1 .0 .0) (of-bits b) (r .row-bytes .ensures))
 
 same-length-2 : tie.Need-same-length-2
 same-length-2 c = search needs
@@ -78,31 +84,27 @@ same-length-2 c = search needs
 returns-2 : tie.Need-returns-2
 returns-2 c =
     let u = c .before .before in
-    let b = u .before .before in
-    let t = b .before .before in
-    let s = t .before .before .before .before .before .before .args in
-    bits-is-row (s .source) _ _ _ _ _ (plain t) (b .row-bytes .ensures) (u .unpack-row .ensures)
+    let r = u .before .before in
+    let b = r .before in
+    bits-is-row (bits-begun b .args .source) _ _ _ _ _ (of-bits b) (r .row-bytes .ensures) (u .unpack-row .ensures)
 
 plain-pixels-requires : tie.Need-plain-pixels-requires
-plain-pixels-requires c κs =
-    let t = c .before in
-    let s = t .before .before .before .before .before .before .before .before in
-    ((s .pre .0, t .if3 .taken), s .pre .1 .0)
+plain-pixels-requires c κs = search needs
 
 same-length-3 : tie.Need-same-length-3
 same-length-3 c = search needs
 
 returns-3 : tie.Need-returns-3
-returns-3 c = c .before .before .plain-pixels .ensures
+returns-3 c = search needs
 
 scale-pixels-requires : tie.Need-scale-pixels-requires
-scale-pixels-requires c κs = let s = c .before .before .before .before .before .before .before .before .before in (s .pre .0, s .pre .1 .0)
+scale-pixels-requires c κs = search needs
 
 same-length-4 : tie.Need-same-length-4
 same-length-4 c = search needs
 
 returns-4 : tie.Need-returns-4
-returns-4 c = c .before .before .scale-pixels .ensures
+returns-4 c = search needs
 
 pub draw-row-spec : {M : Type 1} → statement M
 draw-row-spec =
@@ -114,7 +116,8 @@ draw-row-spec =
     move-run-requires
     same-length
     returns
-    plain-bits-requires
+    is-bits-requires
+    mul-wide-2
     div-from
     row-bytes-requires
     mul-from

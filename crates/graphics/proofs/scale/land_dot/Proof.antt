@@ -1,6 +1,6 @@
 -- `graphics::scale::land_dot` meets its contract. Assumes nothing.
 use mathlib.Core.Path.{refl, _∙_}
-use Rattle.graphics.specs.Steps.{landed}
+use Rattle.bits.specs.Bits.{landed}
 use borrow.Author.Needs.{needs}
 use Rattle.graphics.proofs.scale.land_dot.Statement.{statement}
 use Rattle.graphics.proofs.scale.land_dot.Tie as tie

@@ -1,7 +1,7 @@
 -- `graphics::scale::land_run` meets its contract. Assumes nothing.
 use mathlib.Core.Path.{refl}
 use Rattle.dots.specs.Dots.{drawn}
-use Rattle.graphics.specs.Steps.{landed}
+use Rattle.bits.specs.Bits.{landed}
 use borrow.Author.Needs.{needs}
 use Rattle.graphics.proofs.scale.land_run.Statement.{statement}
 use Rattle.graphics.proofs.scale.land_run.Tie as tie

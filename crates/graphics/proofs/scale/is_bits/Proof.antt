@@ -1,10 +1,9 @@
--- `graphics::scale::plain_bits` meets its contract. Assumes nothing.
+-- `graphics::scale::is_bits` meets its contract. Assumes nothing.
 use mathlib.Core.Path.{sym}
 use mathlib.Core.Bool.{true≢false}
-use borrow.Author.Tests.{eqb-true}
 use borrow.Author.Needs.{needs}
-use Rattle.graphics.proofs.scale.plain_bits.Statement.{statement}
-use Rattle.graphics.proofs.scale.plain_bits.Tie as tie
+use Rattle.graphics.proofs.scale.is_bits.Statement.{statement}
+use Rattle.graphics.proofs.scale.is_bits.Tie as tie
 
 enum-told : tie.Need-enum-told
 enum-told c = search needs
@@ -16,7 +15,7 @@ enum-told-3 : tie.Need-enum-told-3
 enum-told-3 c = search needs
 
 returns : tie.Need-returns
-returns c e = (c .before .enum-told .given .1, eqb-true _ _ e)
+returns c e = c .enum-told .given .1
 
 returns-2 : tie.Need-returns-2
 returns-2 c e = absurd (true≢false (sym e))
@@ -24,6 +23,6 @@ returns-2 c e = absurd (true≢false (sym e))
 returns-3 : tie.Need-returns-3
 returns-3 c e = absurd (true≢false (sym e))
 
-pub plain-bits-spec : {M : Type 1} → statement M
-plain-bits-spec =
+pub is-bits-spec : {M : Type 1} → statement M
+is-bits-spec =
     tie.close (tie.spec enum-told enum-told-2 enum-told-3 returns returns-2 returns-3)
