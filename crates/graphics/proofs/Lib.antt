@@ -1,7 +1,7 @@
 mod Places
 mod Unpacking
 mod Scaling
-mod Codes
+pub mod Codes
 mod Answers
 mod Layering
 mod Unique
