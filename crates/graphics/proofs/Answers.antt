@@ -1,29 +1,18 @@
 -- What an entry's definitions come to, refused and done. Assumes nothing.
 use mathlib.Core.Path.{_≡_, refl, ap}
-use mathlib.Core.Bool.{Bool, true, false}
+use mathlib.Core.Bool.{Bool, false}
 use mathlib.Core.List.{List}
 use Prim.Native.Nat.{ℕ, _*_, _≤_, _<_}
 use native.Mathlib.Omega.{arith}
-use lib.Dec.{eqb}
-use borrow.Author.Tests.{eq-eqb, ne-eqb, ltb-false, eqb-false}
+use borrow.Author.Tests.{eq-eqb, ne-eqb, ltb-false}
 use Rattle.numbers.specs.Numbers.{done}
 use Rattle.colour.specs.declared.RGBA.{RGBA}
 use Rattle.graphics.specs.declared.formats.Format.{Format}
 use Rattle.graphics.specs.Formats.{bytesOf, rasterOf}
-use Rattle.graphics.specs.Decoding.{factor, lacksRoom, answer, output}
 use Rattle.bits.specs.Bits.{landed}
+use Rattle.graphics.specs.Decoding.{lacksRoom, answer, output}
 use Rattle.graphics.specs.Steps.{Sound, Layered, pictureOn}
 use Rattle.graphics.proofs.Codes.{Small, Layers}
-
--- ---- a stretch factor
-
-pub factor-range : {r : ℕ} (n : ℕ) → r ≡ factor n → n ≤ 255 → (0 < r) × (r ≤ 255)
-unfolding factor
-factor-range {r} n e h = rw e (go (eqb n 0) refl)
-  where
-    go : (t : Bool) → eqb n 0 ≡ t → (0 < factor n) × (factor n ≤ 255)
-    go true e = rw e (omega arith)
-    go false e = rw e (omega (arith, eqb-false n 0 e))
 
 -- ---- the answer and the output
 

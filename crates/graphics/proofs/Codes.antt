@@ -1,7 +1,7 @@
 -- From tests to a refusal's number, and from number 0 to what was tested. Assumes nothing.
 use mathlib.Core.Path.{_≡_, refl}
 use mathlib.Core.Bool.{Bool, true, false, not, _&&_, _||_, true≢false}
-use Prim.Native.Nat.{ℕ, _+_, _*_, _/_, _≤_}
+use Prim.Native.Nat.{ℕ, _+_, _*_, _/_, _≤_, _<_}
 use native.Mathlib.Nat.{mul-le-mul}
 use native.Mathlib.Omega.{arith}
 use lib.Dec.{ltb, eqb}
@@ -10,8 +10,18 @@ use Rattle.numbers.specs.Numbers.{limit, done, noRoom, tooLarge, wrongLength, n
 use Rattle.colour.specs.Choice.{if_then_else_}
 use Rattle.graphics.specs.declared.formats.Format.{Format}
 use Rattle.graphics.specs.Formats.{bytesOf, rasterOf}
-use Rattle.graphics.specs.Decoding.{isLarge, lacksRoom, refusal}
+use Rattle.graphics.specs.Decoding.{factor, isLarge, lacksRoom, refusal}
 use Rattle.graphics.specs.Layers.{layerBytes, outgrown, layersRefusal}
+
+-- ---- a stretch factor
+
+pub factor-range : {r : ℕ} (n : ℕ) → r ≡ factor n → n ≤ 255 → (0 < r) × (r ≤ 255)
+unfolding factor
+factor-range {r} n e h = rw e (go (eqb n 0) refl)
+  where
+    go : (t : Bool) → eqb n 0 ≡ t → (0 < factor n) × (factor n ≤ 255)
+    go true e = rw e (omega arith)
+    go false e = rw e (omega (arith, eqb-false n 0 e))
 
 -- ---- sides within the limit
 

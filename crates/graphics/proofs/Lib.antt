@@ -1,6 +1,6 @@
 mod Places
 mod Scaling
-mod Codes
+pub mod Codes
 mod Answers
 mod Layering
 mod Unique

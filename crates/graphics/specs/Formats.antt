@@ -1,5 +1,5 @@
 -- What the data of an image say: the alpha of each source dot, and how many bytes that takes. 01, "Decoding".
-use Prim.Native.Nat.{ℕ, _+_, _*_, _/_}
+use Prim.Native.Nat.{ℕ, _+_, _*_}
 use mathlib.Core.Bool.{Bool, true, false}
 use mathlib.Core.List.{List}
 use lib.ListN.{getD}

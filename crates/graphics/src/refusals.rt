@@ -24,7 +24,7 @@ pub fn factor_of(stretch: u8) -> u32
     stretch as u32
 }
 
-fn is_large(w: u32, h: u32, fx: u32, fy: u32) -> bool
+pub fn is_large(w: u32, h: u32, fx: u32, fy: u32) -> bool
     requires { ⌜ (fx ≤ 255) × (fy ≤ 255) ⌝ }
     ensures { λ r. ⌜ r ≡ isLarge w h fx fy ⌝ }
 {
@@ -47,7 +47,7 @@ fn lacks_room(w: u32, h: u32, fx: u32, fy: u32, room: usize) -> bool
     room < 4 * ((w * fx) as usize * (h * fy) as usize)
 }
 
-fn bytes_of(format: Format, w: u32, h: u32) -> usize
+pub fn bytes_of(format: Format, w: u32, h: u32) -> usize
     requires { ⌜ (w ≤ limit) × (h ≤ limit) ⌝ }
     ensures { λ r. ⌜ r ≡ bytesOf format w h ⌝ }
 {

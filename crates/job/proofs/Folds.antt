@@ -1,0 +1,62 @@
+-- Laws of heights, kept commands and dropped lists, command by command. Assumes nothing.
+use Prim.Native.Nat.{ℕ, _+_, _≤_}
+use mathlib.Core.Path.{_≡_, refl}
+use mathlib.Core.List.{List, [], _∷_}
+use mathlib.Core.Bool.{Bool, true, false}
+use borrow.Author.Tests.{eq-eqb, ne-eqb, eqb-true}
+use Rattle.numbers.specs.Numbers.{limit, done}
+use Rattle.colour.specs.Choice.{if_then_else_}
+use Rattle.job.specs.declared.commands.Command.{Command}
+use Rattle.job.specs.Dropping.{refusal, grown, kept, next, heightFrom, keptFrom, droppedFrom}
+use Rattle.job.proofs.Reasons.{grown-fits}
+
+-- ---- one command, kept or dropped
+
+module _ (W H : ℕ) (c : Command) (cs : List Command) where
+  module _ (e : refusal W H c ≡ done) where
+    pub height-kept : heightFrom W H (c ∷ cs) ≡ heightFrom W (grown H c) cs
+    unfolding heightFrom next
+    height-kept = rw (eq-eqb (refusal W H c) done e)
+
+    pub kept-kept : keptFrom W H (c ∷ cs) ≡ c ∷ keptFrom W (grown H c) cs
+    unfolding keptFrom next
+    kept-kept = rw (eq-eqb (refusal W H c) done e)
+
+    pub dropped-kept : (k : ℕ) → droppedFrom W H k (c ∷ cs) ≡ droppedFrom W (grown H c) (k + 1) cs
+    unfolding droppedFrom next
+    dropped-kept k = rw (eq-eqb (refusal W H c) done e)
+
+  module _ (e : refusal W H c ≡ done → ⊥) where
+    pub height-dropped : heightFrom W H (c ∷ cs) ≡ heightFrom W H cs
+    unfolding heightFrom next
+    height-dropped = rw (ne-eqb (refusal W H c) done e)
+
+    pub kept-dropped : keptFrom W H (c ∷ cs) ≡ keptFrom W H cs
+    unfolding keptFrom next
+    kept-dropped = rw (ne-eqb (refusal W H c) done e)
+
+    pub dropped-dropped : (k : ℕ) → droppedFrom W H k (c ∷ cs) ≡ record { place = k; reason = refusal W H c } ∷ droppedFrom W H (k + 1) cs
+    unfolding droppedFrom next
+    dropped-dropped k = rw (ne-eqb (refusal W H c) done e)
+
+-- ---- the folds as one view: commands cs, from height H on, of which ks are kept, and the height becomes H'
+
+pub data Keeps (W : ℕ) : ℕ → List Command → List Command → ℕ → Type 0 where
+  none : {H : ℕ} → Keeps W H [] [] H
+  keep : {H H' : ℕ} {c : Command} {cs ks : List Command} → refusal W H c ≡ done → Keeps W (grown H c) cs ks H' → Keeps W H (c ∷ cs) (c ∷ ks) H'
+  drop : {H H' : ℕ} {c : Command} {cs ks : List Command} → Keeps W H cs ks H' → Keeps W H (c ∷ cs) ks H'
+
+keeps-step : (W H : ℕ) (c : Command) (cs : List Command) (t : Bool) → kept W H c ≡ t → ((H : ℕ) → Keeps W H cs (keptFrom W H cs) (heightFrom W H cs))
+    → Keeps W H (c ∷ cs) (if t then c ∷ keptFrom W (if t then grown H c else H) cs else keptFrom W (if t then grown H c else H) cs) (heightFrom W (if t then grown H c else H) cs)
+keeps-step W H c cs true e f = keep (eqb-true _ _ e) (f (grown H c))
+keeps-step W H c cs false e f = drop (f H)
+
+pub keeps : (W H : ℕ) (cs : List Command) → Keeps W H cs (keptFrom W H cs) (heightFrom W H cs)
+unfolding keptFrom heightFrom next
+keeps W H [] = none
+keeps W H (c ∷ cs) = keeps-step W H c cs (kept W H c) refl (λ H'. keeps W H' cs)
+
+pub keeps-fits : {W H H' : ℕ} {cs ks : List Command} → Keeps W H cs ks H' → H ≤ limit → H' ≤ limit
+keeps-fits none h = h
+keeps-fits {W} {H} (keep {c = c} e r) h = keeps-fits r (grown-fits W H c e)
+keeps-fits (drop r) h = keeps-fits r h

@@ -1,0 +1,193 @@
+-- What a command is dropped for: from tests to the number, and from number 0 to what was tested. Assumes nothing.
+use Prim.Native.Nat.{ℕ, _+_, _*_, _≤_, _<_, max}
+use mathlib.Core.Path.{_≡_, refl}
+use mathlib.Core.Logic.{_⊎_, inl, inr}
+use mathlib.Core.Bool.{Bool, true, false, not, _||_, or-true, true≢false}
+use native.Mathlib.Omega.{arith}
+use borrow.Author.Tests.{lt-ltb, le-ltb, le-leb, lt-leb, eq-eqb, ne-eqb, ltb-false, leb-false, eqb-true, eqb-false}
+use lib.Dec.{ltb, leb, eqb}
+use Rattle.numbers.specs.Numbers.{limit, done, tooLarge, wrongLength, offPaper, tooTall, emptyArea}
+use Rattle.colour.specs.Choice.{if_then_else_}
+use Rattle.colour.specs.declared.RGBA.{RGBA}
+use Rattle.graphics.specs.declared.formats.Format.the-variants.{Bits}
+use Rattle.graphics.specs.Formats.{bytesOf}
+use Rattle.graphics.specs.Decoding.{factor, isLarge}
+use Rattle.graphics.proofs.Codes.{Small, small}
+use Rattle.job.specs.declared.commands.Command.{Command}
+use Rattle.job.specs.declared.commands.Command.the-variants.{Rectangle, Image, Margin, Flip}
+use Rattle.job.specs.Dropping.{tallRefusal, putRefusal, imageRefusal, flipRefusal, refusal, grown}
+
+-- ---- from tests to the number
+
+module _ (H : ℕ) where
+  pub too-tall : limit < H → tooTall ≡ tallRefusal H
+  unfolding tallRefusal
+  too-tall a = rw (lt-ltb limit H a)
+
+  pub not-tall : H ≤ limit → done ≡ tallRefusal H
+  unfolding tallRefusal
+  not-tall a = rw (le-ltb limit H a)
+
+module _ (W H x y w h : ℕ) where
+  pub put-wide : limit < w → tooLarge ≡ putRefusal W H x y w h
+  unfolding putRefusal
+  put-wide a = rw (lt-ltb limit w a)
+
+  pub put-high : limit < h → tooLarge ≡ putRefusal W H x y w h
+  unfolding putRefusal
+  put-high a = rw (lt-ltb limit h a, or-true)
+
+  pub put-off : w ≤ limit → h ≤ limit → W ≤ x → offPaper ≡ putRefusal W H x y w h
+  unfolding putRefusal
+  put-off a b d = rw (le-ltb limit w a, le-ltb limit h b, le-leb W x d)
+
+  pub put-rest : w ≤ limit → h ≤ limit → x < W → {r e : ℕ} → e ≡ max H (y + h) → r ≡ tallRefusal e → r ≡ putRefusal W H x y w h
+  unfolding putRefusal
+  put-rest a b d q f = rw (le-ltb limit w a, le-ltb limit h b, lt-leb W x d, ← q) f
+
+  pub flip-empty : (w ≡ 0) ⊎ (h ≡ 0) → emptyArea ≡ flipRefusal W H x y w h
+  unfolding flipRefusal
+  flip-empty (inl a) = rw (eq-eqb w 0 a)
+  flip-empty (inr a) = rw (eq-eqb h 0 a, or-true)
+
+  pub flip-off : (w ≡ 0 → ⊥) → (h ≡ 0 → ⊥) → W < x + w → offPaper ≡ flipRefusal W H x y w h
+  unfolding flipRefusal
+  flip-off a b d = rw (ne-eqb w 0 a, ne-eqb h 0 b, lt-ltb W (x + w) d)
+
+  pub flip-rest : (w ≡ 0 → ⊥) → (h ≡ 0 → ⊥) → x + w ≤ W → {r e : ℕ} → e ≡ max H (y + h) → r ≡ tallRefusal e → r ≡ flipRefusal W H x y w h
+  unfolding flipRefusal
+  flip-rest a b d q f = rw (ne-eqb w 0 a, ne-eqb h 0 b, le-ltb W (x + w) d, ← q) f
+
+  module _ (fx fy size : ℕ) where
+    pub image-large : isLarge w h fx fy ≡ true → tooLarge ≡ imageRefusal W H x y w h fx fy size
+    unfolding imageRefusal
+    image-large l = rw l
+
+    pub image-length : isLarge w h fx fy ≡ false → (size ≡ bytesOf Bits w h → ⊥) → wrongLength ≡ imageRefusal W H x y w h fx fy size
+    unfolding imageRefusal
+    image-length l e = rw (l, ne-eqb size (bytesOf Bits w h) e)
+
+    pub image-rest : isLarge w h fx fy ≡ false → size ≡ bytesOf Bits w h → putRefusal W H x y (w * fx) (h * fy) ≡ imageRefusal W H x y w h fx fy size
+    unfolding imageRefusal
+    image-rest l e = rw (l, eq-eqb size (bytesOf Bits w h) e)
+
+-- the refusal of a command, by its kind
+module _ (W H : ℕ) {r : ℕ} {d : Command} where
+  pub of-rectangle : {x y w h mode : ℕ} {c : RGBA} → d ≡ Rectangle x y w h c mode → r ≡ putRefusal W H x y w h → r ≡ refusal W H d
+  unfolding refusal
+  of-rectangle e f = rw e f
+
+  pub of-image : {x y w h sx sy mode start size : ℕ} {c : RGBA} → d ≡ Image x y w h sx sy c mode start size → r ≡ imageRefusal W H x y w h (factor sx) (factor sy) size → r ≡ refusal W H d
+  unfolding refusal
+  of-image e f = rw e f
+
+  pub of-margin : {m : ℕ} → d ≡ Margin m → r ≡ tallRefusal (H + m) → r ≡ refusal W H d
+  unfolding refusal
+  of-margin e f = rw e f
+
+  pub of-flip : {x y w h : ℕ} → d ≡ Flip x y w h → r ≡ flipRefusal W H x y w h → r ≡ refusal W H d
+  unfolding refusal
+  of-flip e f = rw e f
+
+-- the height after a command, by its kind
+module _ (H : ℕ) {d : Command} where
+  pub grown-rectangle : {x y w h mode : ℕ} {c : RGBA} → d ≡ Rectangle x y w h c mode → grown H d ≡ max H (y + h)
+  unfolding grown
+  grown-rectangle e = rw e
+
+  pub grown-image : {x y w h sx sy mode start size : ℕ} {c : RGBA} → d ≡ Image x y w h sx sy c mode start size → {f : ℕ} → f ≡ factor sy → grown H d ≡ max H (y + h * f)
+  unfolding grown
+  grown-image e f = rw (e, f)
+
+  pub grown-margin : {m : ℕ} → d ≡ Margin m → grown H d ≡ H + m
+  unfolding grown
+  grown-margin e = rw e
+
+  pub grown-flip : {x y w h : ℕ} → d ≡ Flip x y w h → grown H d ≡ max H (y + h)
+  unfolding grown
+  grown-flip e = rw e
+
+-- ---- what is known of a command that is kept
+
+-- the first test of a refusal did not hold
+passed : (t : Bool) (n r : ℕ) → 0 < n → (if t then n else r) ≡ done → (t ≡ false) × (r ≡ done)
+passed true n r h e = absurd (omega arith)
+passed false n r h e = (refl, e)
+
+neither : (a b : Bool) → (a || b) ≡ false → (a ≡ false) × (b ≡ false)
+neither true b e = absurd (true≢false e)
+neither false b e = (refl, e)
+
+not-not : (t : Bool) → not t ≡ false → t ≡ true
+not-not true e = refl
+not-not false e = absurd (true≢false e)
+
+pub tall-kept : (H : ℕ) → tallRefusal H ≡ done → H ≤ limit
+unfolding tallRefusal
+tall-kept H e = ltb-false _ _ (passed (ltb limit H) _ done (omega arith) e .0)
+
+pub record PutKept (W H x y w h : ℕ) : Type 0 where
+  pub wide : w ≤ limit
+  pub high : h ≤ limit
+  pub on : x < W
+  pub fits : max H (y + h) ≤ limit
+
+pub put-kept : (W H x y w h : ℕ) → putRefusal W H x y w h ≡ done → PutKept W H x y w h
+unfolding putRefusal
+put-kept W H x y w h e =
+    let a = passed (ltb limit w || ltb limit h) _ _ (omega arith) e in
+    let b = passed (leb W x) _ _ (omega arith) (a .1) in
+    let c = neither (ltb limit w) (ltb limit h) (a .0) in
+    record { wide = ltb-false _ _ (c .0); high = ltb-false _ _ (c .1); on = leb-false _ _ (b .0); fits = tall-kept _ (b .1) }
+
+pub record ImageKept (W H x y w h fx fy size : ℕ) : Type 0 where
+  pub sides : Small w h fx fy
+  pub bytes : size ≡ bytesOf Bits w h
+  pub put : PutKept W H x y (w * fx) (h * fy)
+
+pub image-kept : (W H x y w h fx fy size : ℕ) → imageRefusal W H x y w h fx fy size ≡ done → ImageKept W H x y w h fx fy size
+unfolding imageRefusal
+image-kept W H x y w h fx fy size e =
+    let a = passed (isLarge w h fx fy) _ _ (omega arith) e in
+    let b = passed (not (eqb size (bytesOf Bits w h))) _ _ (omega arith) (a .1) in
+    record { sides = small w h fx fy (a .0); bytes = eqb-true _ _ (not-not _ (b .0)); put = put-kept W H x y (w * fx) (h * fy) (b .1) }
+
+pub record FlipKept (W H x y w h : ℕ) : Type 0 where
+  pub wide : w ≡ 0 → ⊥
+  pub high : h ≡ 0 → ⊥
+  pub on : x + w ≤ W
+  pub fits : max H (y + h) ≤ limit
+
+pub flip-kept : (W H x y w h : ℕ) → flipRefusal W H x y w h ≡ done → FlipKept W H x y w h
+unfolding flipRefusal
+flip-kept W H x y w h e =
+    let a = passed (eqb w 0 || eqb h 0) _ _ (omega arith) e in
+    let b = passed (ltb W (x + w)) _ _ (omega arith) (a .1) in
+    let c = neither (eqb w 0) (eqb h 0) (a .0) in
+    record { wide = eqb-false _ _ (c .0); high = eqb-false _ _ (c .1); on = ltb-false _ _ (b .0); fits = tall-kept _ (b .1) }
+
+-- the same of a command, by its kind
+module _ (W H : ℕ) {d : Command} (k : refusal W H d ≡ done) where
+  pub rectangle-kept : {x y w h mode : ℕ} {c : RGBA} → d ≡ Rectangle x y w h c mode → PutKept W H x y w h
+  unfolding refusal
+  rectangle-kept e = put-kept W H _ _ _ _ (rw e at k)
+
+  pub stretched-kept : {x y w h sx sy mode start size : ℕ} {c : RGBA} → d ≡ Image x y w h sx sy c mode start size → ImageKept W H x y w h (factor sx) (factor sy) size
+  unfolding refusal
+  stretched-kept e = image-kept W H _ _ _ _ _ _ _ (rw e at k)
+
+  pub margin-kept : {m : ℕ} → d ≡ Margin m → H + m ≤ limit
+  unfolding refusal
+  margin-kept e = tall-kept _ (rw e at k)
+
+  pub mirrored-kept : {x y w h : ℕ} → d ≡ Flip x y w h → FlipKept W H x y w h
+  unfolding refusal
+  mirrored-kept e = flip-kept W H _ _ _ _ (rw e at k)
+
+-- a command that is kept leaves a height within the limit
+pub grown-fits : (W H : ℕ) (c : Command) → refusal W H c ≡ done → grown H c ≤ limit
+unfolding grown
+grown-fits W H (Rectangle x y w h c mode) k = rectangle-kept W H k refl .fits
+grown-fits W H (Image x y w h sx sy c mode start size) k = stretched-kept W H k refl .put .fits
+grown-fits W H (Margin m) k = margin-kept W H k refl
+grown-fits W H (Flip x y w h) k = mirrored-kept W H k refl .fits

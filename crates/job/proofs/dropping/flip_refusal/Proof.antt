@@ -1,0 +1,32 @@
+-- `job::dropping::flip_refusal` meets its contract. Assumes nothing.
+use mathlib.Core.Logic.{inl, inr}
+use Rattle.job.proofs.Reasons.{flip-empty, flip-off, flip-rest}
+use borrow.Author.Needs.{needs}
+use Rattle.job.proofs.dropping.flip_refusal.Statement.{statement}
+use Rattle.job.proofs.dropping.flip_refusal.Tie as tie
+
+returns : tie.Need-returns
+returns c = flip-empty _ _ _ _ _ _ (inl (c .if1 .taken))
+
+returns-2 : tie.Need-returns-2
+returns-2 c = flip-empty _ _ _ _ _ _ (inr (c .if2 .taken))
+
+add-if3 : tie.Need-add-if3
+add-if3 c = search needs
+
+returns-3 : tie.Need-returns-3
+returns-3 c = flip-off _ _ _ _ _ _ (c .before .before .if1 .left) (c .before .if2 .left) (c .if3 .taken)
+
+reached-requires : tie.Need-reached-requires
+reached-requires c κs = search needs
+
+tall-refusal-requires : tie.Need-tall-refusal-requires
+tall-refusal-requires c κs = search needs
+
+returns-4 : tie.Need-returns-4
+returns-4 c = let e = c .before .before in flip-rest _ _ _ _ _ _ (e .before .before .if1 .left) (e .before .if2 .left) (e .if3 .left) (c .before .reached .ensures) (c .tall-refusal .ensures)
+
+pub flip-refusal-spec : {M : Type 1} → statement M
+flip-refusal-spec =
+    tie.close
+    (tie.spec returns returns-2 add-if3 returns-3 reached-requires tall-refusal-requires returns-4)

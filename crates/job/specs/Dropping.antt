@@ -1,0 +1,103 @@
+-- What a job is refused for, and what its commands are dropped for: 01, "Jobs". A run starts at height 0 with growth on; W is the paper's width and H the height so far.
+use Prim.Native.Nat.{ℕ, _+_, _*_, max}
+use mathlib.Core.List.{List, [], _∷_}
+use mathlib.Core.Bool.{Bool, not, _||_}
+use lib.ListN.{length}
+use lib.Dec.{ltb, leb, eqb}
+use Rattle.numbers.specs.Numbers.{limit, done, tooLarge, wrongLength, offPaper, tooTall, emptyArea, badJob, tooLong}
+use Rattle.colour.specs.Choice.{if_then_else_}
+use Rattle.graphics.specs.declared.formats.Format.the-variants.{Bits}
+use Rattle.graphics.specs.Formats.{bytesOf}
+use Rattle.graphics.specs.Decoding.{factor, isLarge}
+use Rattle.job.specs.declared.commands.Command.{Command}
+use Rattle.job.specs.declared.commands.Command.the-variants.{Rectangle, Image, Margin, Flip}
+use Rattle.job.specs.declared.dropping.Dropped.{Dropped}
+use Rattle.job.specs.Commands.{sound, paperWidth, commands}
+
+-- ---- a job: order 11, 12
+
+abbrev pub mostCommands : ℕ
+mostCommands = 64
+
+unfoldable pub numberOf : Bool → List Command → ℕ
+numberOf isSound cs = if not isSound then badJob else if ltb mostCommands (length cs) then tooLong else done
+
+unfoldable pub jobRefusal : List ℕ → ℕ
+jobRefusal s = numberOf (sound s) (commands s)
+
+-- ---- a command
+
+-- 8: a resulting height above the limit
+unfoldable pub tallRefusal : ℕ → ℕ
+tallRefusal H = if ltb limit H then tooTall else done
+
+-- a put of w·h pixels at (x, y): 2, 5, 8. With all its pixels and growth on it is never 6 or 7
+unfoldable pub putRefusal : ℕ → ℕ → ℕ → ℕ → ℕ → ℕ → ℕ
+putRefusal W H x y w h =
+    if ltb limit w || ltb limit h then tooLarge
+    else if leb W x then offPaper
+    else tallRefusal (max H (y + h))
+
+-- an image of w by h dots in `size` bytes of bit rows, stretched fx and fy times: its decoding's 2, 3 before its put's
+unfoldable pub imageRefusal : ℕ → ℕ → ℕ → ℕ → ℕ → ℕ → ℕ → ℕ → ℕ → ℕ
+imageRefusal W H x y w h fx fy size =
+    if isLarge w h fx fy then tooLarge
+    else if not (eqb size (bytesOf Bits w h)) then wrongLength
+    else putRefusal W H x y (w * fx) (h * fy)
+
+-- a flip: 10, 5, 8
+unfoldable pub flipRefusal : ℕ → ℕ → ℕ → ℕ → ℕ → ℕ → ℕ
+flipRefusal W H x y w h =
+    if eqb w 0 || eqb h 0 then emptyArea
+    else if ltb W (x + w) then offPaper
+    else tallRefusal (max H (y + h))
+
+-- the number for which a command is dropped, or 0. A margin: 8
+unfoldable pub refusal : ℕ → ℕ → Command → ℕ
+refusal W H (Rectangle x y w h c mode) = putRefusal W H x y w h
+refusal W H (Image x y w h sx sy c mode start size) = imageRefusal W H x y w h (factor sx) (factor sy) size
+refusal W H (Margin m) = tallRefusal (H + m)
+refusal W H (Flip x y w h) = flipRefusal W H x y w h
+
+-- the height after a command that is kept
+unfoldable pub grown : ℕ → Command → ℕ
+grown H (Rectangle x y w h c mode) = max H (y + h)
+grown H (Image x y w h sx sy c mode start size) = max H (y + h * factor sy)
+grown H (Margin m) = H + m
+grown H (Flip x y w h) = max H (y + h)
+
+-- ---- one command after another
+
+abbrev pub kept : ℕ → ℕ → Command → Bool
+kept W H c = eqb (refusal W H c) done
+
+-- the height after a command: a dropped one changes nothing
+unfoldable pub next : ℕ → ℕ → Command → ℕ
+next W H c = if kept W H c then grown H c else H
+
+unfoldable pub heightFrom : ℕ → ℕ → List Command → ℕ
+heightFrom W H [] = H
+heightFrom W H (c ∷ cs) = heightFrom W (next W H c) cs
+
+unfoldable pub keptFrom : ℕ → ℕ → List Command → List Command
+keptFrom W H [] = []
+keptFrom W H (c ∷ cs) = if kept W H c then c ∷ keptFrom W (next W H c) cs else keptFrom W (next W H c) cs
+
+-- the dropped ones in order, by place and reason; k is the first command's place
+unfoldable pub droppedFrom : ℕ → ℕ → ℕ → List Command → List Dropped
+droppedFrom W H k [] = []
+droppedFrom W H k (c ∷ cs) =
+    if kept W H c then droppedFrom W (next W H c) (k + 1) cs
+    else record { place = k; reason = refusal W H c } ∷ droppedFrom W (next W H c) (k + 1) cs
+
+-- ---- the commands of the job s
+
+unfoldable pub jobHeight : List ℕ → ℕ
+jobHeight s = heightFrom (paperWidth s) 0 (commands s)
+
+unfoldable pub keptOf : List ℕ → List Command
+keptOf s = keptFrom (paperWidth s) 0 (commands s)
+
+-- the first after the paper is 0
+unfoldable pub jobDropped : List ℕ → List Dropped
+jobDropped s = droppedFrom (paperWidth s) 0 0 (commands s)

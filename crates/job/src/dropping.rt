@@ -1,0 +1,160 @@
+// What a command is dropped for, from the paper's width, the height so far and the command's own
+// numbers, and the height after one that is kept.
+ghost use mathlib.Core.Path.{_≡_};
+ghost use Prim.Native.Nat.{_+_, _≤_, max};
+ghost use Rattle.numbers.specs.Numbers.{limit};
+ghost use Rattle.graphics.specs.Decoding.{factor};
+ghost use Rattle.job.specs.Dropping.{tallRefusal, putRefusal, imageRefusal, flipRefusal, refusal, grown};
+use super::commands::Command;
+use graphics::Format;
+use graphics::bytes_of;
+use graphics::factor_of;
+use graphics::is_large;
+use numbers::DONE;
+use numbers::EMPTY_AREA;
+use numbers::LIMIT;
+use numbers::OFF_PAPER;
+use numbers::TOO_LARGE;
+use numbers::TOO_TALL;
+use numbers::WRONG_LENGTH;
+
+// A dropped command: the first after the paper has place 0.
+#[repr(C)]
+pub struct Dropped {
+    pub place: u32,
+    pub reason: u8,
+}
+
+// The height once an area of h rows from y on is there. A sum of two u32 fits a usize.
+fn reached(height: u32, y: u32, h: u32) -> usize
+    ensures { λ r. ⌜ r ≡ max height (y + h) ⌝ }
+{
+    let end = y as usize + h as usize;
+    if end > height as usize {
+        return end;
+    }
+    height as usize
+}
+
+fn tall_refusal(height: usize) -> u8
+    ensures { λ r. ⌜ r ≡ tallRefusal height ⌝ }
+{
+    if height > LIMIT as usize {
+        return TOO_TALL;
+    }
+    DONE
+}
+
+fn put_refusal(width: u32, height: u32, x: u32, y: u32, w: u32, h: u32) -> u8
+    ensures { λ r. ⌜ r ≡ putRefusal width height x y w h ⌝ }
+{
+    if w > LIMIT {
+        return TOO_LARGE;
+    }
+    if h > LIMIT {
+        return TOO_LARGE;
+    }
+    if x >= width {
+        return OFF_PAPER;
+    }
+    tall_refusal(reached(height, y, h))
+}
+
+fn image_refusal(
+    width: u32,
+    height: u32,
+    x: u32,
+    y: u32,
+    w: u32,
+    h: u32,
+    stretch_x: u8,
+    stretch_y: u8,
+    size: usize,
+) -> u8
+    ensures { λ r. ⌜ r ≡ imageRefusal width height x y w h (factor «stretch_x») (factor «stretch_y») size ⌝ }
+{
+    let fx = factor_of(stretch_x);
+    let fy = factor_of(stretch_y);
+    if is_large(w, h, fx, fy) {
+        return TOO_LARGE;
+    }
+    if size != bytes_of(Format::Bits, w, h) {
+        return WRONG_LENGTH;
+    }
+    put_refusal(width, height, x, y, w * fx, h * fy)
+}
+
+fn flip_refusal(width: u32, height: u32, x: u32, y: u32, w: u32, h: u32) -> u8
+    ensures { λ r. ⌜ r ≡ flipRefusal width height x y w h ⌝ }
+{
+    if w == 0 {
+        return EMPTY_AREA;
+    }
+    if h == 0 {
+        return EMPTY_AREA;
+    }
+    if x as usize + w as usize > width as usize {
+        return OFF_PAPER;
+    }
+    tall_refusal(reached(height, y, h))
+}
+
+pub fn command_refusal(width: u32, height: u32, c: Command) -> u8
+    ensures { λ r. ⌜ r ≡ refusal width height c ⌝ }
+{
+    match c {
+        Command::Rectangle {
+            x,
+            y,
+            w,
+            h,
+            color: _,
+            mode: _,
+        } => put_refusal(width, height, x, y, w, h),
+        Command::Image {
+            x,
+            y,
+            w,
+            h,
+            stretch_x,
+            stretch_y,
+            color: _,
+            mode: _,
+            start: _,
+            size,
+        } => image_refusal(width, height, x, y, w, h, stretch_x, stretch_y, size),
+        Command::Margin(m) => tall_refusal(height as usize + m as usize),
+        Command::Flip { x, y, w, h } => flip_refusal(width, height, x, y, w, h),
+    }
+}
+
+// A command that is kept leaves a height within the limit.
+pub fn height_after(height: u32, c: Command) -> u32
+    requires { ⌜ grown height c ≤ limit ⌝ }
+    ensures { λ r. ⌜ r ≡ grown height c ⌝ }
+{
+    match c {
+        Command::Rectangle {
+            x: _,
+            y,
+            w: _,
+            h,
+            color: _,
+            mode: _,
+        } => reached(height, y, h) as u32,
+        Command::Image {
+            x: _,
+            y,
+            w: _,
+            h,
+            stretch_x: _,
+            stretch_y,
+            color: _,
+            mode: _,
+            start: _,
+            size: _,
+        } => reached(height, y, h * factor_of(stretch_y)) as u32,
+        Command::Margin(m) => height + m,
+        Command::Flip { x: _, y, w: _, h } => reached(height, y, h) as u32,
+    }
+}
