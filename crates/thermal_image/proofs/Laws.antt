@@ -20,7 +20,7 @@ use Rattle.thermal_image.proofs.Codes.{grow-done, margin-done}
 use Rattle.thermal_image.proofs.Answers.{more-rows}
 
 -- a width has its rows
-rows-some : (W H : ℕ) → 0 < W → rowsOf W H ≡ H
+pub rows-some : (W H : ℕ) → 0 < W → rowsOf W H ≡ H
 unfolding rowsOf
 rows-some W H h = rw (ne-eqb W 0 (λ e. omega arith))
 

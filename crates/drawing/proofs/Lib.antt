@@ -1,0 +1,3 @@
+pub mod Codes
+mod Growing
+mod Equal
