@@ -61,8 +61,7 @@ returns-2 c =
     let u = f .before .before .before in
     let d = u .before .before in
     let g = numbered (d .before) in
-    let e = d .before .before .image-tall .ensures in
-    (
+    let e = d .before .before .image-tall .ensures in (
       did g _ _ (d .if1 .left) (u .put-on .ensures .0 ∙ rw e),
       changed g _ _ (d .if1 .left) (a .flip-area .ensures ∙ rw (u .put-on .ensures .1, e, ← f .flips .ensures, v .if2 .taken)),
     )
@@ -77,8 +76,7 @@ returns-3 c =
     let u = f .before .before .before in
     let d = u .before .before in
     let g = numbered (d .before) in
-    let e = d .before .before .image-tall .ensures in
-    (
+    let e = d .before .before .image-tall .ensures in (
       did g _ _ (d .if1 .left) (u .put-on .ensures .0 ∙ rw e),
       changed g _ _ (d .if1 .left) (u .put-on .ensures .1 ∙ rw (e, ← f .flips .ensures, c .if2 .left)),
     )
