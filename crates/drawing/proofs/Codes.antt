@@ -14,14 +14,15 @@ use Rattle.drawing.specs.Drawing.{cropped, cropWide, cropTall, sideRefus
 
 -- ---- what cropping leaves
 
+-- a side that is cut or not
+cut : (c : Bool) (side room : ℕ) → (if c then min side room else side) ≤ side
+cut true side room = omega arith
+cut false side room = omega arith
+
 module _ (t : ThermalImage) (x y w : ℕ) where
   pub crop-wide : cropWide t x y w ≤ w
   unfolding cropWide
-  crop-wide = by (cropped t x y w)
-    where
-      by : (c : Bool) → (if c then min w (t .width - x) else w) ≤ w
-      by true = omega arith
-      by false = omega arith
+  crop-wide = cut (cropped t x y w) w (t .width - x)
 
   pub crop-across : x < t .width → x + cropWide t x y w ≤ t .width
   unfolding cropWide cropped
@@ -33,11 +34,7 @@ module _ (t : ThermalImage) (x y w : ℕ) where
 
   pub crop-tall : (h : ℕ) → cropTall t x y w h ≤ h
   unfolding cropTall
-  crop-tall h = by (cropped t x y w && not (t .«auto_grow»))
-    where
-      by : (c : Bool) → (if c then min h (t .height - y) else h) ≤ h
-      by true = omega arith
-      by false = omega arith
+  crop-tall h = cut (cropped t x y w && not (t .«auto_grow»)) h (t .height - y)
 
 -- ---- one number
 
