@@ -144,7 +144,7 @@ pub enum Answer {
 }
 
 /// The original's canvas.
-pub struct Canvas(ThermalImage);
+pub struct Canvas(pub ThermalImage);
 
 impl Canvas {
     pub fn new(width: u32) -> Self {
@@ -273,7 +273,7 @@ fn pixel(dot: &[u8]) -> RGBA {
     rgba(u32::from_le_bytes(dot.try_into().unwrap()))
 }
 
-fn pixels_of(bytes: &[u8]) -> Vec<RGBA> {
+pub fn pixels_of(bytes: &[u8]) -> Vec<RGBA> {
     assert!(bytes.len() % 4 == 0, "the original has no part of a pixel");
     bytes.chunks_exact(4).map(pixel).collect()
 }
