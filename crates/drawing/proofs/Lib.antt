@@ -1,0 +1,5 @@
+pub mod Codes
+pub mod Laws
+pub mod Equal
+mod Growing
+mod Unique

@@ -1,0 +1,2 @@
+-- What the contracts of drawing say: document 01, "Canvas".
+pub mod Drawing
