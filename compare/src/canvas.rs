@@ -3,12 +3,11 @@
 
 #[cfg(feature = "drawing")]
 mod border;
-mod cases;
 mod space;
 
 use crate::boundary::canvas::{call, Answer};
 use crate::report::{Entry, Progress, Report};
-use cases::{Case, Class, Step, CLASSES};
+use oracle::canvas::cases::{Case, Class, Step};
 use oracle::canvas::{self, Canvas, Operation, Record};
 use oracle::colour::hex;
 use oracle::random::Random;
@@ -16,15 +15,77 @@ use oracle::rules::canvas::{after, due, height};
 use oracle::rules::{DONE, LARGEST, NO_ROOM, OFF_PAPER, SHORT, TOO_MANY, TOO_TALL};
 use space::{Space, SHIFTS};
 
+/// Whether the library exports what draws.
+const DRAWS: bool = cfg!(feature = "drawing");
+
 /// What is refused is asked of the original only for canvases and areas of at most so many dots.
 const MOST_DOTS: u128 = 1 << 17;
+
+/// Histories, and how many calls they have in all.
+const CLASSES: [(u64, Class); 5] = [
+    // Small canvases, of which there are the most.
+    (
+        1_200_000,
+        Class {
+            steps: 60,
+            capacity: 4 * 1_500,
+            widths: &[0, 1, 2, 3, 4, 5, 7, 8, 9, 12, 15, 16, 17, 24, 31, 33],
+            rows: 10,
+            draws: DRAWS,
+        },
+    ),
+    // As wide as a receipt is.
+    (
+        40_000,
+        Class {
+            steps: 40,
+            capacity: 4 * 600 * 40,
+            widths: &[256, 280, 300, 384, 512, 576],
+            rows: 8,
+            draws: DRAWS,
+        },
+    ),
+    // As wide as can be.
+    (
+        10_000,
+        Class {
+            steps: 30,
+            capacity: 4 * 16_384 * 10,
+            widths: &[4_097, 8_192, 10_000, 16_383, 16_384, 16_384],
+            rows: 4,
+            draws: DRAWS,
+        },
+    ),
+    // As tall as can be.
+    (
+        10_000,
+        Class {
+            steps: 30,
+            capacity: 4 * 16_384 * 10,
+            widths: &[1, 2, 3, 5, 8, 9],
+            rows: 6_000,
+            draws: DRAWS,
+        },
+    ),
+    // Whole receipts.
+    (
+        600,
+        Class {
+            steps: 20,
+            capacity: 4 * 576 * 3_000,
+            widths: &[384, 512, 576],
+            rows: 700,
+            draws: DRAWS,
+        },
+    ),
+];
 
 pub fn compare(report: &mut Report) {
     let mut random = Random::new(5);
     let mut judge = Judge::new();
-    for class in &CLASSES {
+    for (cases, class) in &CLASSES {
         let mut spaces = [0; 2].map(|_| Space::new(class.capacity, &mut random));
-        let end = judge.cases + class.cases;
+        let end = judge.cases + cases;
         while judge.cases < end {
             for space in &mut spaces {
                 space.shift(random.below(SHIFTS));
@@ -40,7 +101,7 @@ pub fn compare(report: &mut Report) {
 
 /// The operations that are compared.
 fn names() -> impl Iterator<Item = &'static str> {
-    let drawing: &[_] = if cfg!(feature = "drawing") {
+    let drawing: &[_] = if DRAWS {
         &Operation::DRAWING_NAMES
     } else {
         &[]

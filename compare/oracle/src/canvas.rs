@@ -1,5 +1,7 @@
 //! The canvas: its operations, and what the original makes of them.
 
+pub mod cases;
+
 use crate::colour::{number, rgba};
 use crate::stops::answer;
 use thermal_parser::graphics::{Image, ImageFlow, Rectangle, RGBA};

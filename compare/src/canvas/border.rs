@@ -1,10 +1,10 @@
 //! Borders of pictures, which are no part of a canvas.
 
-use super::cases::{color, HUGE};
 use super::space::{Space, SHIFTS};
 use crate::boundary::drawing::draw_border;
 use crate::report::{Entry, Progress, Report};
 use oracle::canvas;
+use oracle::canvas::cases::{color, HUGE};
 use oracle::colour::hex;
 use oracle::random::Random;
 use oracle::rules::canvas::border_due;

@@ -1,9 +1,9 @@
-//! What the canvas is asked.
+//! What a canvas is asked: steps of random histories.
 
-use oracle::canvas::{Area, Operation, Record, Turn};
-use oracle::random::Random;
-use oracle::rules::canvas::{after, cropped, due, Lent};
-use oracle::rules::{BAD_CANVAS, LARGEST};
+use super::{Area, Operation, Record, Turn};
+use crate::random::Random;
+use crate::rules::canvas::{after, cropped, due, Lent};
+use crate::rules::{BAD_CANVAS, LARGEST};
 
 pub struct Case {
     pub operation: Operation,
@@ -21,60 +21,18 @@ pub enum Step {
 
 /// Histories of canvases that are of about one size.
 pub struct Class {
-    pub cases: u64,
     /// Steps of one history.
     pub steps: usize,
     /// The bytes that a buffer has at most.
     pub capacity: usize,
-    widths: &'static [u32],
+    pub widths: &'static [u32],
     /// Rows are added up to about so many.
-    rows: usize,
+    pub rows: usize,
+    /// Whether it is drawn on.
+    pub draws: bool,
 }
 
 const LIMIT: u32 = LARGEST as u32;
-
-pub const CLASSES: [Class; 5] = [
-    // Small canvases, of which there are the most.
-    Class {
-        cases: 1_200_000,
-        steps: 60,
-        capacity: 4 * 1_500,
-        widths: &[0, 1, 2, 3, 4, 5, 7, 8, 9, 12, 15, 16, 17, 24, 31, 33],
-        rows: 10,
-    },
-    // As wide as a receipt is, and wider than a run of a few dots.
-    Class {
-        cases: 40_000,
-        steps: 40,
-        capacity: 4 * 600 * 40,
-        widths: &[256, 280, 300, 384, 512, 576],
-        rows: 8,
-    },
-    // As wide as can be.
-    Class {
-        cases: 10_000,
-        steps: 30,
-        capacity: 4 * 16_384 * 10,
-        widths: &[4_097, 8_192, 10_000, LIMIT - 1, LIMIT, LIMIT],
-        rows: 4,
-    },
-    // As tall as can be.
-    Class {
-        cases: 10_000,
-        steps: 30,
-        capacity: 4 * 16_384 * 10,
-        widths: &[1, 2, 3, 5, 8, 9],
-        rows: 6_000,
-    },
-    // Whole receipts.
-    Class {
-        cases: 600,
-        steps: 20,
-        capacity: 4 * 576 * 3_000,
-        widths: &[384, 512, 576],
-        rows: 700,
-    },
-];
 
 /// Numbers above the limit, about which sums and products wrap.
 pub const HUGE: [u32; 12] = [
@@ -117,7 +75,7 @@ impl Class {
     }
 
     fn any_case(&self, record: &Record, random: &mut Random) -> Case {
-        let operation = if cfg!(feature = "drawing") && random.below(2) == 0 {
+        let operation = if self.draws && random.below(2) == 0 {
             self.drawing(record, random)
         } else {
             self.operation(record, random)
