@@ -110,6 +110,7 @@ impl Writer {
                 self.buffers[self.canvas][..dots.len()].copy_from_slice(&dots);
                 self.answers += 1;
                 self.line(&Line {
+                    canvas: self.canvas,
                     e: seed,
                     ..Line::new('y', self.record, LENGTH)
                 });

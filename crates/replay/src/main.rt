@@ -1,5 +1,7 @@
 // Replays the fixed lists of the original's answers, and says of each how many lines agree with
 // this project and how many do not.
+mod buffers;
+mod canvas_list;
 mod colour_list;
 mod decoders_list;
 mod hex;
@@ -12,6 +14,11 @@ fn main() {
     tell(
         b"decoders' refusals",
         decoders_list::replay(b"decoders_refusals.txt"),
+    );
+    tell(b"canvas", canvas_list::replay(b"canvas.txt"));
+    tell(
+        b"canvas's refusals",
+        canvas_list::replay(b"canvas_refusals.txt"),
     );
 }
 
