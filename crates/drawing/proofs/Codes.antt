@@ -1,7 +1,7 @@
 -- What cropping leaves, and from number 0 to what was tested. Assumes nothing.
 use mathlib.Core.Path.{_≡_, refl, sym, _∙_}
 use mathlib.Core.Bool.{Bool, true, false, not, _&&_, _||_, true≢false}
-use Prim.Native.Nat.{ℕ, _+_, _-_, _*_, _/_, _≤_, _<_, min, max}
+use Prim.Native.Nat.{ℕ, _+_, _-_, _*_, _≤_, _<_, min, max}
 use native.Mathlib.Omega.{arith}
 use lib.Dec.{ltb, leb, eqb}
 use borrow.Author.Tests.{ltb-false, leb-true, leb-false, eqb-false}
@@ -10,7 +10,8 @@ use Rattle.colour.specs.Choice.{if_then_else_}
 use Rattle.thermal_image.specs.declared.ThermalImage.{ThermalImage}
 use Rattle.thermal_image.specs.Canvas.{first, unsound, growRefusal}
 use Rattle.thermal_image.proofs.Codes.{first-none, first-done, passed, room-done, neither}
-use Rattle.drawing.specs.Drawing.{cropped, cropWide, cropTall, sideRefusal, offRefusal, emptyRefusal, acrossRefusal, rowsRefusal, placeRefusal, Ready, tallAfter, flips, imageTall, flipTall, flipRefusal, borderRefusal}
+use Rattle.drawing.specs.Drawing.{cropped, cropWide, cropTall, sideRefusal, offRefusal, emptyRefusal, acrossRefusal, rowsRefusal, placeRefusal, tallAfter, flips, imageTall, flipTall, flipRefusal, borderRefusal}
+use Rattle.drawing.specs.Steps.{Ready}
 
 -- ---- what cropping leaves
 

@@ -14,7 +14,8 @@ use Rattle.thermal_image.specs.declared.Answer.{Answer}
 use Rattle.thermal_image.specs.Canvas.{sized, finished, answered, written, papered, growRefusal, grown, grownOn}
 use Rattle.thermal_image.proofs.Codes.{grow-done}
 use Rattle.thermal_image.proofs.Laws.{rows-some}
-use Rattle.drawing.specs.Drawing.{cropWide, cropTall, grownTo, placed, Ready}
+use Rattle.drawing.specs.Drawing.{cropWide, cropTall, grownTo, placed}
+use Rattle.drawing.specs.Steps.{Ready}
 use Rattle.drawing.proofs.Codes.{crop-across, crop-tall}
 
 module _ (t : ThermalImage) (rows : ℕ) (more : t .height ≤ rows) where

@@ -20,30 +20,8 @@ use Rattle.thermal_image.specs.declared.ThermalImage.{ThermalImage}
 use Rattle.thermal_image.specs.Canvas.{sized, finished, answered, written, first, unsound, growRefusal}
 use Rattle.thermal_image.proofs.Codes.{first-none, neither}
 use Rattle.thermal_image.proofs.Laws.{within-rows, grown-kept, grown-paper}
-use Rattle.drawing.specs.Drawing.{
-  cropped,
-  cropWide,
-  cropTall,
-  tallAfter,
-  sideRefusal,
-  offRefusal,
-  rowsRefusal,
-  drew,
-  grownTo,
-  placed,
-  pixelsDrawn,
-  Ready,
-  putRefusal,
-  put,
-  putOn,
-  rectRefusal,
-  rect,
-  rectOn,
-  flipTall,
-  flipRefusal,
-  flip,
-  flipOn,
-}
+use Rattle.drawing.specs.Drawing.{cropped, cropWide, cropTall, tallAfter, sideRefusal, offRefusal, rowsRefusal, drew, grownTo, placed, pixelsDrawn, putRefusal, put, putOn, rectRefusal, rect, rectOn, flipTall, flipRefusal, flip, flipOn}
+use Rattle.drawing.specs.Steps.{Ready}
 use Rattle.drawing.proofs.Codes.{put-ready, Flips, flip-done}
 use Rattle.drawing.proofs.Growing.{grows-room, length-grown, grew}
 use Rattle.drawing.proofs.Equal.{equal-refusal}

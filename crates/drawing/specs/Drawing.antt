@@ -1,7 +1,6 @@
 -- Drawing on the canvas: 01, "Canvas". t is a canvas, n the length of its buffer, and w by h what is drawn at (x, y).
-use Prim.Native.Nat.{ℕ, _+_, _-_, _*_, _/_, _%_, _≤_, _<_, min, max}
-use mathlib.Core.Path.{_≡_}
-use mathlib.Core.Bool.{Bool, true, false, not, _&&_, _||_}
+use Prim.Native.Nat.{ℕ, _+_, _-_, _*_, _/_, _%_, min, max}
+use mathlib.Core.Bool.{Bool, true, not, _&&_, _||_}
 use mathlib.Core.List.{List}
 use lib.ListN.{length}
 use lib.Dec.{ltb, leb, eqb}
@@ -12,7 +11,7 @@ use Rattle.dots.specs.Dots.{drawn, tab, chan}
 use Rattle.areas.specs.Areas.{areaOn, pixelDrawn, flippedOn, bordered}
 use Rattle.thermal_image.specs.declared.ThermalImage.{ThermalImage}
 use Rattle.thermal_image.specs.declared.Answer.{Answer}
-use Rattle.thermal_image.specs.Canvas.{sized, answered, written, first, unsound, tallRefusal, roomRefusal, papered, growRefusal}
+use Rattle.thermal_image.specs.Canvas.{sized, answered, written, first, unsound, tallRefusal, roomRefusal, papered}
 
 -- ---- cropping
 
@@ -94,15 +93,6 @@ placed t x y w h rows f l = areaOn (t .width) x y (cropWide t x y w) (cropTall t
 -- what pixels, w to a row, draw. The last of them may be missing
 abbrev pub pixelsDrawn : Bool → List ℕ → ℕ → ℕ → ℕ → RGBA → RGBA
 pixelsDrawn multiply pixels w i j d = pixelDrawn multiply pixels (length pixels / 4) (j * w + i) d
-
--- what is known where a put is not refused
-pub record Ready (t : ThermalImage) (x y w h rows n : ℕ) : Type 0 where
-  pub on : x < t .width
-  pub wide : w ≤ limit
-  pub tall : h ≤ limit
-  pub more : t .height ≤ rows
-  pub down : y + cropTall t x y w h ≤ rows
-  pub grows : growRefusal t rows n ≡ done
 
 -- ---- a put of pixels
 

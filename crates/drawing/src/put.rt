@@ -2,7 +2,8 @@
 ghost use mathlib.Core.Path.{_≡_};
 ghost use lib.ListN.{length};
 ghost use Rattle.thermal_image.specs.Canvas.{sized, finished};
-ghost use Rattle.drawing.specs.Drawing.{Ready, placed, pixelsDrawn, put, putOn, imagePut, imageOn};
+ghost use Rattle.drawing.specs.Drawing.{placed, pixelsDrawn, put, putOn, imagePut, imageOn};
+ghost use Rattle.drawing.specs.Steps.{Ready};
 use super::refusals::place_refusal;
 use super::sizes::crop_pixels;
 use super::sizes::flips;

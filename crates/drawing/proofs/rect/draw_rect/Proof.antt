@@ -4,7 +4,8 @@ use native.Mathlib.Omega.{arith}
 use lib.ListN.{length}
 use denote.Ref.{now}
 use Rattle.thermal_image.proofs.Answers.{refused, did, kept, changed}
-use Rattle.drawing.specs.Drawing.{Ready, drew, putRefusal, rectRefusal, rect, rectOn}
+use Rattle.drawing.specs.Drawing.{drew, putRefusal, rectRefusal, rect, rectOn}
+use Rattle.drawing.specs.Steps.{Ready}
 use Rattle.drawing.proofs.Codes.{put-ready}
 use Rattle.drawing.proofs.Growing.{grows-within, placing}
 use borrow.Author.Needs.{needs}
