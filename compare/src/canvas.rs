@@ -1,7 +1,6 @@
 //! The canvas: histories of operations, each asked of the original's canvas and of this library's,
 //! from a new one on.
 
-#[cfg(feature = "drawing")]
 mod border;
 mod space;
 
@@ -14,9 +13,6 @@ use oracle::random::Random;
 use oracle::rules::canvas::{after, due, height};
 use oracle::rules::{DONE, LARGEST, NO_ROOM, OFF_PAPER, SHORT, TOO_MANY, TOO_TALL};
 use space::{Space, SHIFTS};
-
-/// Whether the library exports what draws.
-const DRAWS: bool = cfg!(feature = "drawing");
 
 /// What is refused is asked of the original only for canvases and areas of at most so many dots.
 const MOST_DOTS: u128 = 1 << 17;
@@ -31,7 +27,7 @@ const CLASSES: [(u64, Class); 5] = [
             capacity: 4 * 1_500,
             widths: &[0, 1, 2, 3, 4, 5, 7, 8, 9, 12, 15, 16, 17, 24, 31, 33],
             rows: 10,
-            draws: DRAWS,
+            draws: true,
         },
     ),
     // As wide as a receipt is.
@@ -42,7 +38,7 @@ const CLASSES: [(u64, Class); 5] = [
             capacity: 4 * 600 * 40,
             widths: &[256, 280, 300, 384, 512, 576],
             rows: 8,
-            draws: DRAWS,
+            draws: true,
         },
     ),
     // As wide as can be.
@@ -53,7 +49,7 @@ const CLASSES: [(u64, Class); 5] = [
             capacity: 4 * 16_384 * 10,
             widths: &[4_097, 8_192, 10_000, 16_383, 16_384, 16_384],
             rows: 4,
-            draws: DRAWS,
+            draws: true,
         },
     ),
     // As tall as can be.
@@ -64,7 +60,7 @@ const CLASSES: [(u64, Class); 5] = [
             capacity: 4 * 16_384 * 10,
             widths: &[1, 2, 3, 5, 8, 9],
             rows: 6_000,
-            draws: DRAWS,
+            draws: true,
         },
     ),
     // Whole receipts.
@@ -75,7 +71,7 @@ const CLASSES: [(u64, Class); 5] = [
             capacity: 4 * 576 * 3_000,
             widths: &[384, 512, 576],
             rows: 700,
-            draws: DRAWS,
+            draws: true,
         },
     ),
 ];
@@ -95,17 +91,12 @@ pub fn compare(report: &mut Report) {
         }
     }
     judge.entries.into_iter().for_each(|e| report.add_entry(e));
-    #[cfg(feature = "drawing")]
     border::compare(report, &mut random);
 }
 
 /// The operations that are compared.
 fn names() -> impl Iterator<Item = &'static str> {
-    let drawing: &[_] = if DRAWS {
-        &Operation::DRAWING_NAMES
-    } else {
-        &[]
-    };
+    let drawing = Operation::DRAWING_NAMES.iter();
     Operation::NAMES.iter().chain(drawing).copied()
 }
 

@@ -39,7 +39,7 @@ impl Work {
 fn works(random: &mut Random) -> Vec<Work> {
     let whole = (WIDTH, HEIGHT);
     let work = Work::new;
-    let mut works = vec![
+    let works = vec![
         work(
             "growing by 4000 rows",
             (WIDTH, HEIGHT - 4_000),
@@ -60,10 +60,7 @@ fn works(random: &mut Random) -> Vec<Work> {
         work("rotation by 270", whole, Operation::Rotate(Turn::By270)),
         work("RGB output", whole, Operation::ConsumeRgb),
     ];
-    if cfg!(feature = "drawing") {
-        works.extend(drawing(random));
-    }
-    works
+    works.into_iter().chain(drawing(random)).collect()
 }
 
 fn drawing(random: &mut Random) -> Vec<Work> {

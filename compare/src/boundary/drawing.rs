@@ -1,13 +1,8 @@
 //! Drawing on the canvas.
 
-use super::canvas::Answer;
-#[cfg(feature = "drawing")]
-use super::canvas::CanvasAnswer;
-#[cfg(feature = "drawing")]
-use oracle::canvas::Area;
-use oracle::canvas::{Operation, Record};
+use super::canvas::{Answer, CanvasAnswer};
+use oracle::canvas::{Area, Operation, Record};
 
-#[cfg(feature = "drawing")]
 unsafe extern "C" {
     fn thermal_put_pixels(
         width: u32,
@@ -82,7 +77,6 @@ unsafe extern "C" {
 }
 
 /// Calls an operation that draws with a record and its buffer.
-#[cfg(feature = "drawing")]
 pub fn call(operation: &Operation, record: &Record, buf: &mut [u8]) -> Answer {
     let Record {
         width,
@@ -144,13 +138,7 @@ pub fn call(operation: &Operation, record: &Record, buf: &mut [u8]) -> Answer {
     .into()
 }
 
-#[cfg(feature = "drawing")]
 pub fn draw_border(w: u32, h: u32, color: u32, buf: &mut [u8]) -> u8 {
     // SAFETY: the address and the length are those of a slice that is lent for the call.
     unsafe { thermal_draw_border(w, h, color, buf.as_mut_ptr(), buf.len()) }
-}
-
-#[cfg(not(feature = "drawing"))]
-pub fn call(operation: &Operation, _record: &Record, _buf: &mut [u8]) -> Answer {
-    unreachable!("{} is not exported", operation.name())
 }

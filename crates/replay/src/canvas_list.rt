@@ -6,13 +6,17 @@ use super::Tally;
 use super::buffers::checksum;
 use super::buffers::fill;
 use super::buffers::fill_from;
-use super::colour_list::same_color;
-use super::hex::byte_at;
-use super::hex::color_at;
+use super::drawn::drawn;
+use super::drawn::draws;
 use super::hex::number_at;
-use thermal_image::Answer;
-use thermal_image::Copied;
-use thermal_image::Rgb;
+use super::said::Said;
+use super::said::canvas;
+use super::said::copied;
+use super::said::image_at;
+use super::said::none;
+use super::said::rgb;
+use super::said::says;
+use super::said::tall;
 use thermal_image::ThermalImage;
 
 const LINE: usize = 167;
@@ -23,17 +27,18 @@ pub fn replay(path: &[u8]) -> Tally {
     let n = io::read_full(list, &mut space);
     let mut one = [0u8; 4096];
     let mut two = [0u8; 4096];
+    let mut pixels = [0u8; 4096];
     fill(&mut one, 0x5a);
     fill(&mut two, 0x5a);
-    tally(&space[..n], &mut one, &mut two)
+    tally(&space[..n], &mut one, &mut two, &mut pixels)
 }
 
-fn tally(lines: &[u8], one: &mut [u8], two: &mut [u8]) -> Tally {
+fn tally(lines: &[u8], one: &mut [u8], two: &mut [u8], pixels: &mut [u8]) -> Tally {
     let mut agree = 0;
     let mut differ = 0;
     let mut at = 0;
     while lines.len() - at >= LINE {
-        if agrees(lines, at, one, two) {
+        if agrees(lines, at, one, two, pixels) {
             agree += 1;
         } else {
             differ += 1;
@@ -43,10 +48,10 @@ fn tally(lines: &[u8], one: &mut [u8], two: &mut [u8]) -> Tally {
     Tally { agree, differ }
 }
 
-fn agrees(s: &[u8], at: usize, one: &mut [u8], two: &mut [u8]) -> bool
+fn agrees(s: &[u8], at: usize, one: &mut [u8], two: &mut [u8], pixels: &mut [u8]) -> bool
     requires { ⌜ at + 167 ≤ length (now s) ⌝ }
 {
-    if !called(s, at, one, two) {
+    if !called(s, at, one, two, pixels) {
         return false;
     }
     if checksum(one) != number_at(s, at + 149, 8) {
@@ -56,16 +61,16 @@ fn agrees(s: &[u8], at: usize, one: &mut [u8], two: &mut [u8]) -> bool
 }
 
 // Whether the call gives what the line says, with the buffer that the line names for the canvas's.
-fn called(s: &[u8], at: usize, one: &mut [u8], two: &mut [u8]) -> bool
+fn called(s: &[u8], at: usize, one: &mut [u8], two: &mut [u8], pixels: &mut [u8]) -> bool
     requires { ⌜ at + 167 ≤ length (now s) ⌝ }
 {
     if s[at + 2] == b'0' {
-        return called_with(s, at, one, two);
+        return called_with(s, at, one, two, pixels);
     }
-    called_with(s, at, two, one)
+    called_with(s, at, two, one, pixels)
 }
 
-fn called_with(s: &[u8], at: usize, buf: &mut [u8], out: &mut [u8]) -> bool
+fn called_with(s: &[u8], at: usize, buf: &mut [u8], out: &mut [u8], pixels: &mut [u8]) -> bool
     requires { ⌜ at + 167 ≤ length (now s) ⌝ }
 {
     let n = number_at(s, at + 85, 6) as usize;
@@ -75,6 +80,9 @@ fn called_with(s: &[u8], at: usize, buf: &mut [u8], out: &mut [u8]) -> bool
     }
     if out.len() < m {
         return false;
+    }
+    if draws(s[at]) {
+        return drawn(s, at, &mut buf[..n], pixels);
     }
     if writes_canvas(s[at]) {
         let said = changed(s, at, &mut buf[..n]);
@@ -86,14 +94,6 @@ fn called_with(s: &[u8], at: usize, buf: &mut [u8], out: &mut [u8]) -> bool
 
 fn writes_canvas(kind: u8) -> bool {
     kind == b'e' || kind == b'm' || kind == b'w' || kind == b'y'
-}
-
-// What a call gives: the number, the canvas, and the width and height of what is written out.
-struct Said {
-    number: u8,
-    image: ThermalImage,
-    width: u32,
-    height: u32,
 }
 
 // Calls that write to the canvas's buffer, and the caller that does.
@@ -133,53 +133,6 @@ fn read(s: &[u8], at: usize, buf: &[u8], out: &mut [u8]) -> Said
     }
 }
 
-fn canvas(r: Answer) -> Said {
-    let image = r.image;
-    Said {
-        number: r.number,
-        image,
-        width: 0,
-        height: 0,
-    }
-}
-
-fn tall(t: ThermalImage) -> Said {
-    Said {
-        number: 0,
-        image: t,
-        width: 0,
-        height: t.get_height(),
-    }
-}
-
-fn copied(t: ThermalImage, r: Copied) -> Said {
-    Said {
-        number: r.number,
-        image: t,
-        width: r.width,
-        height: r.height,
-    }
-}
-
-fn rgb(r: Rgb) -> Said {
-    let image = r.image;
-    Said {
-        number: r.number,
-        image,
-        width: r.width,
-        height: r.height,
-    }
-}
-
-fn none(t: ThermalImage) -> Said {
-    Said {
-        number: 255,
-        image: t,
-        width: 0,
-        height: 0,
-    }
-}
-
 fn written(t: ThermalImage, seed: u32, buf: &mut [u8]) -> Said {
     let dots = t.width as usize * t.height as usize;
     if buf.len() / 4 < dots {
@@ -192,38 +145,4 @@ fn written(t: ThermalImage, seed: u32, buf: &mut [u8]) -> Said {
         width: 0,
         height: 0,
     }
-}
-
-fn image_at(s: &[u8], at: usize) -> ThermalImage
-    requires { ⌜ at + 28 ≤ length (now s) ⌝ }
-{
-    ThermalImage {
-        width: number_at(s, at, 8),
-        height: number_at(s, at + 9, 8),
-        auto_grow: s[at + 18] == b'1',
-        paper_color: color_at(s, at + 20),
-    }
-}
-
-fn says(s: &[u8], at: usize, said: Said) -> bool
-    requires { ⌜ at + 167 ≤ length (now s) ⌝ }
-{
-    let image = said.image;
-    if !same(image, image_at(s, at + 102)) {
-        return false;
-    }
-    if said.number != byte_at(s, at + 99) {
-        return false;
-    }
-    said.width == number_at(s, at + 131, 8) && said.height == number_at(s, at + 140, 8)
-}
-
-fn same(t: ThermalImage, u: ThermalImage) -> bool {
-    if t.auto_grow != u.auto_grow {
-        return false;
-    }
-    if !same_color(t.paper_color, u.paper_color) {
-        return false;
-    }
-    t.width == u.width && t.height == u.height
 }

@@ -4,7 +4,9 @@ mod buffers;
 mod canvas_list;
 mod colour_list;
 mod decoders_list;
+mod drawn;
 mod hex;
+mod said;
 
 use libc::STDOUT_FILENO;
 
@@ -19,6 +21,11 @@ fn main() {
     tell(
         b"canvas's refusals",
         canvas_list::replay(b"canvas_refusals.txt"),
+    );
+    tell(b"drawing", canvas_list::replay(b"drawing.txt"));
+    tell(
+        b"drawing's refusals",
+        canvas_list::replay(b"drawing_refusals.txt"),
     );
 }
 

@@ -23,6 +23,12 @@ use Rattle.thermal.proofs.canvas.thermal_consume_rgb_u8.Reads as consum
 use Rattle.thermal.proofs.canvas.thermal_rotate_90.Reads as rotate-90
 use Rattle.thermal.proofs.canvas.thermal_rotate_180.Reads as rotate-180
 use Rattle.thermal.proofs.canvas.thermal_rotate_270.Reads as rotate-270
+use Rattle.thermal.proofs.draw.thermal_put_pixels.Reads as put-pixels
+use Rattle.thermal.proofs.draw.thermal_draw_rect.Reads as draw-rect
+use Rattle.thermal.proofs.draw.thermal_put_rect.Reads as put-rect
+use Rattle.thermal.proofs.draw.thermal_put_render_img.Reads as put-render-img
+use Rattle.thermal.proofs.draw.thermal_flip_pixels.Reads as flip-pixels
+use Rattle.thermal.proofs.draw.thermal_draw_border.Reads as draw-border
 
 with-alpha-one : OneAnswer with-alpha.Post
 with-alpha-one k a x y e f p q = both p q
@@ -122,3 +128,39 @@ rotate-270-one k a x y e f p q = both (p .0) (q .0)
 
 rotate-270-output : OneContent rotate-270.Post (λ k e. now (e .1 .1 .1 .1 .1 .0))
 rotate-270-output k a x y e f p q = both (p .1) (q .1)
+
+put-pixels-one : OneAnswer put-pixels.Post
+put-pixels-one k a x y e f p q = both (p .0) (q .0)
+
+put-pixels-content : OneContent put-pixels.Post (λ k e. now (e .1 .1 .1 .1 .1 .1 .1 .1 .1 .1 .0))
+put-pixels-content k a x y e f p q = both (p .1) (q .1)
+
+draw-rect-one : OneAnswer draw-rect.Post
+draw-rect-one k a x y e f p q = both (p .0) (q .0)
+
+draw-rect-content : OneContent draw-rect.Post (λ k e. now (e .1 .1 .1 .1 .1 .1 .1 .1 .1 .1 .0))
+draw-rect-content k a x y e f p q = both (p .1) (q .1)
+
+put-rect-one : OneAnswer put-rect.Post
+put-rect-one k a x y e f p q = both (p .0) (q .0)
+
+put-rect-content : OneContent put-rect.Post (λ k e. now (e .1 .1 .1 .1 .1 .1 .1 .1 .1 .0))
+put-rect-content k a x y e f p q = both (p .1) (q .1)
+
+put-render-img-one : OneAnswer put-render-img.Post
+put-render-img-one k a x y e f p q = both (p .0) (q .0)
+
+put-render-img-content : OneContent put-render-img.Post (λ k e. now (e .1 .1 .1 .1 .1 .1 .1 .1 .1 .1 .0))
+put-render-img-content k a x y e f p q = both (p .1) (q .1)
+
+flip-pixels-one : OneAnswer flip-pixels.Post
+flip-pixels-one k a x y e f p q = both (p .0) (q .0)
+
+flip-pixels-content : OneContent flip-pixels.Post (λ k e. now (e .1 .1 .1 .1 .1 .1 .1 .1 .0))
+flip-pixels-content k a x y e f p q = both (p .1) (q .1)
+
+draw-border-one : OneAnswer draw-border.Post
+draw-border-one k a x y e f p q = both (p .0) (q .0)
+
+draw-border-content : OneContent draw-border.Post (λ k e. now (e .1 .1 .1 .0))
+draw-border-content k a x y e f p q = both (p .1) (q .1)

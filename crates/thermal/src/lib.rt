@@ -3,6 +3,7 @@
 // canvas record as its numbers.
 pub mod canvas;
 pub mod colours;
+pub mod draw;
 pub mod images;
 mod packed;
 mod records;

@@ -29,6 +29,30 @@ returns c = search needs
 returns-2 : tie.Need-returns-2
 returns-2 c = search needs
 
+shared-slice-read-draws : tie.Need-shared-slice-read-draws
+shared-slice-read-draws c = search needs
+
+draws-requires : tie.Need-draws-requires
+draws-requires c κs = search needs
+
+slice-relend-prefix-drawn : tie.Need-slice-relend-prefix-drawn
+slice-relend-prefix-drawn c = search needs
+
+slice-aggregate-drawn : tie.Need-slice-aggregate-drawn
+slice-aggregate-drawn c = simp length-take (omega arith)
+
+drawn-requires : tie.Need-drawn-requires
+drawn-requires c κs = search needs
+
+same-length : tie.Need-same-length
+same-length c = search needs
+
+same-length-2 : tie.Need-same-length-2
+same-length-2 c = search needs
+
+returns-3 : tie.Need-returns-3
+returns-3 c = search needs
+
 shared-slice-read-writes-canvas : tie.Need-shared-slice-read-writes-canvas
 shared-slice-read-writes-canvas c = search needs
 
@@ -47,11 +71,11 @@ changed-requires c κs = search needs
 says-requires : tie.Need-says-requires
 says-requires c κs = search needs
 
-same-length : tie.Need-same-length
-same-length c = search needs
+same-length-3 : tie.Need-same-length-3
+same-length-3 c = search needs
 
-returns-3 : tie.Need-returns-3
-returns-3 c = search needs
+returns-4 : tie.Need-returns-4
+returns-4 c = search needs
 
 slice-reshare-prefix-read : tie.Need-slice-reshare-prefix-read
 slice-reshare-prefix-read c = search needs
@@ -71,14 +95,14 @@ read-requires c κs = search needs
 says-requires-2 : tie.Need-says-requires-2
 says-requires-2 c κs = search needs
 
-same-length-2 : tie.Need-same-length-2
-same-length-2 c = search needs
+same-length-4 : tie.Need-same-length-4
+same-length-4 c = search needs
 
-same-length-3 : tie.Need-same-length-3
-same-length-3 c = search needs
+same-length-5 : tie.Need-same-length-5
+same-length-5 c = search needs
 
-returns-4 : tie.Need-returns-4
-returns-4 c = search needs
+returns-5 : tie.Need-returns-5
+returns-5 c = search needs
 
 pub called-with-spec : {M : Type 1} → statement M
 called-with-spec =
@@ -92,20 +116,28 @@ called-with-spec =
     cast-m
     returns
     returns-2
+    shared-slice-read-draws
+    draws-requires
+    slice-relend-prefix-drawn
+    slice-aggregate-drawn
+    drawn-requires
+    same-length
+    same-length-2
+    returns-3
     shared-slice-read-writes-canvas
     writes-canvas-requires
     slice-relend-prefix-changed
     slice-aggregate-changed
     changed-requires
     says-requires
-    same-length
-    returns-3
+    same-length-3
+    returns-4
     slice-reshare-prefix-read
     slice-aggregate-read
     slice-relend-prefix-read
     slice-aggregate-read-2
     read-requires
     says-requires-2
-    same-length-2
-    same-length-3
-    returns-4)
+    same-length-4
+    same-length-5
+    returns-5)

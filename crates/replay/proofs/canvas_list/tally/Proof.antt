@@ -8,10 +8,10 @@ use Rattle.replay.proofs.canvas_list.tally.Statement.{statement}
 use Rattle.replay.proofs.canvas_list.tally.Tie as tie
 
 abbrev Inv-loop : tie.InvT-loop
-Inv-loop lines one₀ two₀ agree₀ differ₀ at₀ one two agree differ at = (at ≤ length lines) × (agree + differ ≤ at) × (length one ≡ length one₀) × (length two ≡ length two₀)
+Inv-loop lines one₀ two₀ pixels₀ agree₀ differ₀ at₀ one two pixels agree differ at = (at ≤ length lines) × (agree + differ ≤ at) × (length one ≡ length one₀) × (length two ≡ length two₀) × (length pixels ≡ length pixels₀)
 
 abbrev μ-loop : tie.MeasureT-loop
-μ-loop lines one₀ two₀ agree₀ differ₀ at₀ one two agree differ at = length lines - at
+μ-loop lines one₀ two₀ pixels₀ agree₀ differ₀ at₀ one two pixels agree differ at = length lines - at
 
 loop-holds : tie.Need-loop-holds Inv-loop μ-loop
 loop-holds c = search needs
@@ -43,6 +43,9 @@ same-length c = search needs
 same-length-2 : tie.Need-same-length-2 Inv-loop μ-loop
 same-length-2 c = search needs
 
+same-length-3 : tie.Need-same-length-3 Inv-loop μ-loop
+same-length-3 c = search needs
+
 returns : tie.Need-returns Inv-loop μ-loop
 returns c = search needs
 
@@ -62,4 +65,5 @@ tally-spec =
     loop-again
     same-length
     same-length-2
+    same-length-3
     returns)
