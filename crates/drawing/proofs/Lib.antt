@@ -2,4 +2,5 @@ pub mod Codes
 pub mod Laws
 pub mod Equal
 mod Growing
+mod Examples
 mod Unique

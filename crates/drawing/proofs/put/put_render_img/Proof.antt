@@ -22,6 +22,12 @@ ready : (c : tie.Else1) → let r = c .before .before in let p = r .before .befo
     Ready (p .image) (p .x) (p .y) (p .w) (p .h) (r .image-tall .result) (length (now (p .buf)))
 ready c = let r = c .before in image-ready _ _ _ _ _ _ _ _ (r .before .image-tall .ensures) (sym (r .place-refusal .ensures) ∙ c .if1 .left)
 
+-- what the put answers is the answer, flipped or not
+put-answer : (c : tie.After-put-on) → let p = c .before .before .before .before .before .before .before .args in
+    c .put-on .result ≡ imagePut (p .upside-down) (p .image) (p .x) (p .y) (p .w) (p .h) (length (now (p .pixels))) (length (now (p .buf)))
+unfolding imagePut drew
+put-answer c = let d = c .before .before in did (numbered (d .before)) _ _ (d .if1 .left) (c .put-on .ensures .0 ∙ rw (d .before .before .image-tall .ensures))
+
 image-tall-requires : tie.Need-image-tall-requires
 image-tall-requires c κs = search needs
 
@@ -54,32 +60,29 @@ same-length : tie.Need-same-length
 same-length c = search needs
 
 returns-2 : tie.Need-returns-2
-unfolding imagePut drew imageOn imagePlaced
+unfolding imageOn imagePlaced
 returns-2 c =
     let a = c .before .before in
     let v = a .before .before .before in
     let f = v .before in
     let u = f .before .before .before in
     let d = u .before .before in
-    let g = numbered (d .before) in
     let e = d .before .before .image-tall .ensures in (
-      did g _ _ (d .if1 .left) (u .put-on .ensures .0 ∙ rw e),
-      changed g _ _ (d .if1 .left) (a .flip-area .ensures ∙ rw (u .put-on .ensures .1, e, ← f .flips .ensures, v .if2 .taken)),
+      put-answer u,
+      changed (numbered (d .before)) _ _ (d .if1 .left) (a .flip-area .ensures ∙ rw (u .put-on .ensures .1, e, ← f .flips .ensures, v .if2 .taken)),
     )
 
 same-length-2 : tie.Need-same-length-2
 same-length-2 c = search needs
 
 returns-3 : tie.Need-returns-3
-unfolding imagePut drew imageOn imagePlaced
+unfolding imageOn imagePlaced
 returns-3 c =
-    let f = c .before in
-    let u = f .before .before .before in
-    let d = u .before .before in
-    let g = numbered (d .before) in
-    let e = d .before .before .image-tall .ensures in (
-      did g _ _ (d .if1 .left) (u .put-on .ensures .0 ∙ rw e),
-      changed g _ _ (d .if1 .left) (u .put-on .ensures .1 ∙ rw (e, ← f .flips .ensures, c .if2 .left)),
+    let u = c .before .before .before .before in
+    let d = u .before .before in (
+      put-answer u,
+      changed (numbered (d .before)) _ _ (d .if1 .left)
+          (u .put-on .ensures .1 ∙ rw (d .before .before .image-tall .ensures, ← c .before .flips .ensures, c .if2 .left)),
     )
 
 pub put-render-img-spec : {M : Type 1} → statement M
