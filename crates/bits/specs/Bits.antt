@@ -50,7 +50,7 @@ unfoldable pub joined : (ℕ → ℕ) → ℕ → ℕ
 joined f zero = 0
 joined f (suc n) = joined f n * 2 + f n
 
--- the bits of the n dots from dot i on, at the top of a byte. Unstretched, and from the start of a byte, it is that byte
+-- a byte whose top n bits are those of the n dots from dot i on, i a multiple of 8. Unstretched it is the data's own byte, whose other bits are not looked at
 unfoldable pub dotBits : List ℕ → ℕ → ℕ → ℕ → ℕ → ℕ
 dotBits bytes from fx i n =
     if eqb fx 1 then getD bytes (from + i / 8) 0 else joined (λ k. if ltb k n then bitAt bytes from ((i + k) / fx) else 0) 8

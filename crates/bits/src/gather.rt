@@ -60,7 +60,7 @@ fn join_bits(data: &[u8], from: usize, fx: usize, i: usize, n: usize) -> u8
     bits as u8
 }
 
-pub fn dot_bits(data: &[u8], from: usize, fx: usize, i: usize, n: usize) -> u8
+pub(crate) fn dot_bits(data: &[u8], from: usize, fx: usize, i: usize, n: usize) -> u8
     requires { ⌜ (0 < fx) × (i ≤ limit) × (0 < n) × ((k : ℕ) → k < n → from + (i + k) / fx / 8 < length (now «data»)) ⌝ }
     ensures { λ r. ⌜ r ≡ dotBits (now («data» .entry)) from fx i n ⌝ }
 {

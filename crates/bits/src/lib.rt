@@ -4,6 +4,5 @@ mod gather;
 mod stamp;
 mod unpack;
 
-pub use gather::dot_bits;
 pub use stamp::stamp_row;
 pub use unpack::unpack_row;

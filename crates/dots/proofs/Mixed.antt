@@ -12,7 +12,7 @@ use lib.ListN.{length, getD, set}
 use Rattle.colour.specs.declared.RGBA.{RGBA}
 use Rattle.colour.specs.Choice.{if_then_else_}
 use Rattle.colour.specs.Channel.{blendByte, multiplyByte}
-use Rattle.colour.specs.Colour.{rgba, blended}
+use Rattle.colour.specs.Colour.{rgba, blended, multiplied}
 use Rattle.colour.proofs.Laws.{rgba-eq, by-256, blend-byte-full, blended-full, blended-some, multiplied-some, multiply-byte-full}
 use Rattle.dots.specs.Dots.{dotAt, chan, change, within, drawn}
 use Rattle.dots.specs.Tables.{lanes, factors, terms, Whole}
@@ -91,6 +91,15 @@ mixed-blend c a s hc ha hs =
 mixed-multiply : (c s : ℕ) → c ≤ 255 → s ≤ 255 → mixed c 128 s ≡ multiplyByte s c 255
 mixed-multiply c s hc hs = by-256 (s * c) (mul-le-mul hs hc) ∙ sym (multiply-byte-full s c hs hc)
 
+-- a dot multiplied at full alpha, channel by channel
+pub mixed-whole : (c s : RGBA) → Bytes c → Bytes s → c .a ≡ 255 → {r g b : ℕ} → r ≡ mixed (c .r) 128 (s .r) → g ≡ mixed (c .g) 128 (s .g) → b ≡ mixed (c .b) 128 (s .b)
+    → rgba r g b (s .a) ≡ multiplied c s
+mixed-whole c s p q f er eg eb =
+    multiplied-some c s (λ e. omega arith)
+    (er ∙ mixed-multiply (c .r) (s .r) (p .r) (q .r) ∙ ap (multiplyByte (s .r) (c .r)) (sym f))
+    (eg ∙ mixed-multiply (c .g) (s .g) (p .g) (q .g) ∙ ap (multiplyByte (s .g) (c .g)) (sym f))
+    (eb ∙ mixed-multiply (c .b) (s .b) (p .b) (q .b) ∙ ap (multiplyByte (s .b) (c .b)) (sym f))
+
 mixed-kept : (s : ℕ) → s ≤ 255 → mixed 255 128 s ≡ s
 mixed-kept s h = omega arith
 
@@ -104,15 +113,7 @@ mixedDot t c s =
 -- it is s with c drawn on it
 pub mixed-drawn : (t : Bool) (c s : RGBA) → Bytes c → Bytes s → Whole t c → mixedDot t c s ≡ drawn t c s
 unfolding factors terms drawn
-mixed-drawn true c s p q w =
-    rw (mixed-kept (s .a) (q .a))
-    (multiplied-some c s (λ e. omega (arith, w .some))
-    (mixed-multiply (c .r) (s .r) (p .r) (q .r) ∙ at-full (c .r) (s .r))
-    (mixed-multiply (c .g) (s .g) (p .g) (q .g) ∙ at-full (c .g) (s .g))
-    (mixed-multiply (c .b) (s .b) (p .b) (q .b) ∙ at-full (c .b) (s .b)))
-  where
-    at-full : (x y : ℕ) → multiplyByte y x 255 ≡ multiplyByte y x (c .a)
-    at-full x y = ap (multiplyByte y x) (sym (w .full refl))
+mixed-drawn true c s p q w = rw (mixed-kept (s .a) (q .a)) (mixed-whole c s p q (w .full refl) refl refl refl)
 mixed-drawn false c s p q w = go (eqb (c .a) 255) refl
   where
     new : ℕ → ℕ → ℕ

@@ -3,11 +3,13 @@ ghost use mathlib.Core.Path.{_≡_};
 ghost use mathlib.Core.Bool.{true};
 ghost use Prim.Native.Nat.{_+_, _*_, _≤_, _<_};
 ghost use lib.ListN.{length};
+ghost use Rattle.colour.specs.Colour.{multiplied};
 ghost use Rattle.dots.specs.Dots.{change, within, drawn};
 ghost use Rattle.dots.specs.Tables.{needsFloats, covers};
 use super::dot::get_dot;
 use super::dot::set_dot;
 use super::fill::fill_run;
+use super::mix::mix_byte;
 use super::mix::mix_factors;
 use super::mix::mix_run;
 use super::mix::mix_terms;
@@ -15,11 +17,33 @@ use super::multiply::multiply_run;
 use super::multiply::multiply_table;
 use colour::RGBA;
 
+// Multiplying at full alpha, by whole numbers.
+fn multiply_whole(s: RGBA, c: RGBA) -> RGBA
+    requires { ⌜ c .a ≡ 255 ⌝ }
+    ensures { λ r. ⌜ r ≡ multiplied c s ⌝ }
+{
+    RGBA {
+        r: mix_byte(s.r, c.r as u16, 128),
+        g: mix_byte(s.g, c.g as u16, 128),
+        b: mix_byte(s.b, c.b as u16, 128),
+        a: s.a,
+    }
+}
+
+fn multiply_dot(s: RGBA, c: RGBA) -> RGBA
+    ensures { λ r. ⌜ r ≡ multiplied c s ⌝ }
+{
+    if c.a == RGBA::OPAQUE {
+        return multiply_whole(s, c);
+    }
+    s.multiply_foreground(c)
+}
+
 fn draw_dot(s: RGBA, multiply: bool, c: RGBA) -> RGBA
     ensures { λ r. ⌜ r ≡ drawn multiply c s ⌝ }
 {
     if multiply {
-        return s.multiply_foreground(c);
+        return multiply_dot(s, c);
     }
     s.blend_foreground(c)
 }

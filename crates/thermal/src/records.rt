@@ -29,7 +29,7 @@ pub struct RgbAnswer {
     pub rgb_height: u32,
 }
 
-pub fn canvas_of(width: u32, height: u32, auto_grow: bool, paper_color: u32) -> ThermalImage
+pub(crate) fn canvas_of(width: u32, height: u32, auto_grow: bool, paper_color: u32) -> ThermalImage
     ensures { λ r. ⌜ r ≡ canvasOf width height «auto_grow» «paper_color» ⌝ }
 {
     ThermalImage {
@@ -40,7 +40,7 @@ pub fn canvas_of(width: u32, height: u32, auto_grow: bool, paper_color: u32) -> 
     }
 }
 
-pub fn answer_of(r: Answer) -> CanvasAnswer
+pub(crate) fn answer_of(r: Answer) -> CanvasAnswer
     ensures { λ a. ⌜ a ≡ answerOf r ⌝ }
 {
     let image = r.image;
@@ -53,7 +53,7 @@ pub fn answer_of(r: Answer) -> CanvasAnswer
     }
 }
 
-pub fn rgb_answer_of(r: Rgb) -> RgbAnswer
+pub(crate) fn rgb_answer_of(r: Rgb) -> RgbAnswer
     ensures { λ a. ⌜ a ≡ rgbAnswerOf r ⌝ }
 {
     let canvas = r.image;

@@ -4,12 +4,12 @@ use Rattle.dots.specs.Dots.{drawn}
 use Rattle.dots.proofs.draw.draw_dot.Statement.{statement}
 use Rattle.dots.proofs.draw.draw_dot.Tie as tie
 
-multiply-foreground-requires : tie.Need-multiply-foreground-requires
-multiply-foreground-requires c κs = search needs
+multiply-dot-requires : tie.Need-multiply-dot-requires
+multiply-dot-requires c κs = search needs
 
 returns : tie.Need-returns
 unfolding drawn
-returns c = rw (c .before .if1 .taken) (c .multiply-foreground .ensures)
+returns c = rw (c .before .if1 .taken) (c .multiply-dot .ensures)
 
 blend-foreground-requires : tie.Need-blend-foreground-requires
 blend-foreground-requires c κs = search needs
@@ -20,4 +20,4 @@ returns-2 c = rw (c .before .if1 .left) (c .blend-foreground .ensures)
 
 pub draw-dot-spec : {M : Type 1} → statement M
 draw-dot-spec =
-    tie.close (tie.spec multiply-foreground-requires returns blend-foreground-requires returns-2)
+    tie.close (tie.spec multiply-dot-requires returns blend-foreground-requires returns-2)
