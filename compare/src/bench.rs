@@ -1,5 +1,6 @@
 //! Times of the original and of this library over the same dots, in one run.
 
+mod canvas;
 mod colour;
 mod decoders;
 
@@ -11,6 +12,8 @@ pub fn measure() {
     colour::measure();
     println!();
     decoders::measure();
+    println!();
+    canvas::measure();
 }
 
 /// The times of one work, a round each.

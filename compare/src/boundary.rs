@@ -1,6 +1,9 @@
 //! The functions of the static library. A colour is the u32 whose little-endian bytes are
 //! r, g, b, a; a buffer crosses as its address and its length.
 
+pub mod canvas;
+pub mod drawing;
+
 use oracle::decoders::{Input, Kind};
 
 unsafe extern "C" {

@@ -2,6 +2,7 @@
 
 mod bench;
 mod boundary;
+mod canvas;
 mod colour;
 mod decoders;
 mod report;
@@ -14,6 +15,7 @@ fn main() -> ExitCode {
             let mut report = report::Report::default();
             colour::compare(&mut report);
             decoders::compare(&mut report);
+            canvas::compare(&mut report);
             report.finish()
         }
         Some("bench") => {

@@ -3,6 +3,7 @@
 
 pub mod refusals;
 
+use crate::checksum;
 use oracle::colour::hex;
 use oracle::decoders::{decode, Answer, Input, Kind};
 use oracle::random::Random;
@@ -207,23 +208,4 @@ fn line(input: &Input, lent: usize, answer: &Answer) {
         checksum(&after),
         input.data.len(),
     );
-}
-
-/// FNV-1a in 32 bits.
-fn checksum(bytes: &[u8]) -> u32 {
-    bytes.iter().fold(0x811c_9dc5, |sum, &byte| {
-        (sum ^ u32::from(byte)).wrapping_mul(0x0100_0193)
-    })
-}
-
-#[cfg(test)]
-mod tests {
-    use super::checksum;
-
-    #[test]
-    fn known_checksums() {
-        assert_eq!(checksum(b""), 0x811c_9dc5);
-        assert_eq!(checksum(b"a"), 0xe40c_292c);
-        assert_eq!(checksum(b"foobar"), 0xbf9c_f968);
-    }
 }

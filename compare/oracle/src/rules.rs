@@ -1,6 +1,8 @@
 //! The number that the scope asks of a decoder, worked out from its text. The original says
 //! nothing of lent buffers, and it stops or wraps at sizes that the scope refuses.
 
+pub mod canvas;
+
 use crate::decoders::{Input, Kind};
 
 pub const DONE: u8 = 0;
@@ -8,6 +10,12 @@ pub const NO_ROOM: u8 = 1;
 pub const TOO_LARGE: u8 = 2;
 pub const WRONG_LENGTH: u8 = 3;
 pub const NO_LAYERS: u8 = 4;
+pub const OFF_PAPER: u8 = 5;
+pub const TOO_MANY: u8 = 6;
+pub const SHORT: u8 = 7;
+pub const TOO_TALL: u8 = 8;
+pub const BAD_CANVAS: u8 = 9;
+pub const EMPTY_AREA: u8 = 10;
 /// Never due: all layers of one call have the same size.
 pub const LAYER_SIZE: u8 = 16;
 

@@ -14,7 +14,7 @@ use Rattle.job.specs.declared.records.Rec.the-variants.{Record, Bad, End
 use Rattle.job.specs.declared.commands.Command.{Command}
 use Rattle.job.specs.declared.dropping.Dropped.{Dropped}
 use Rattle.job.specs.Records.{le32, recordAt, records}
-use Rattle.job.specs.Commands.{soundPaper, soundCommand, soundCommands, soundRecords, sound, paperWidth, commandAt, commandsIn, afterPaper, commands}
+use Rattle.job.specs.Commands.{soundPaper, soundCommand, soundCommands, soundRecords, sound, commandsStart, paperWidth, commandAt, commandsIn, afterPaper, commands}
 use Rattle.job.specs.Dropping.{mostCommands, numberOf, jobRefusal, refusal, grown, heightFrom, keptFrom, droppedFrom, jobHeight, keptOf, jobDropped}
 use Rattle.job.proofs.Found.{found, records-record, records-end, records-bad, inside}
 use Rattle.job.proofs.Soundness.{and-both, paper, Bytes, AllSane, all-sane}
@@ -125,13 +125,13 @@ module _ (s : List ℕ) where
 
 pub record Good (s : List ℕ) : Type 0 where
   -- the paper's record, and a width that is one
-  pub long : 14 ≤ length s
+  pub long : commandsStart ≤ length s
   pub some : 1 ≤ paperWidth s
   pub wide : paperWidth s ≤ limit
-  -- its commands stand from byte 14 on, and there are few enough
-  pub commands : commands s ≡ rest s 14
-  pub sound : restSound s 14 ≡ true
-  pub few : length (rest s 14) ≤ mostCommands
+  -- its commands stand past it, and there are few enough
+  pub commands : commands s ≡ rest s commandsStart
+  pub sound : restSound s commandsStart ≡ true
+  pub few : length (rest s commandsStart) ≤ mostCommands
 
 good-first : (s : List ℕ) (r : Rec) → r ≡ recordAt s 0 → sound s ≡ true → length (commands s) ≤ mostCommands → Good s
 unfolding sound soundRecords
@@ -142,16 +142,16 @@ good-first s (Record kind st n nx) e f h =
     let b = and-both (soundPaper s kind st n) (restSound s nx) (sym (first-sound s e) ∙ f) in
     let p = paper s kind st n (b .0) in
     let c : commands s ≡ rest s nx = first-commands s e in
-    let st6 : st ≡ 6 = omega (arith, d .start) in
-    let nx14 : nx ≡ 14 = omega (arith, d .whole, p .size) in
-    let w : le32 s st ≡ paperWidth s = ap (le32 s) st6 in
+    let body : st ≡ 6 = omega (arith, d .start) in
+    let past : nx ≡ commandsStart = omega (arith, d .whole, p .size) in
+    let w : le32 s st ≡ paperWidth s = ap (le32 s) body in
     record {
       long = omega (arith, d .fits);
       some = omega (arith, p .some);
       wide = omega (arith, p .wide);
-      commands = rw nx14 at c;
-      sound = rw nx14 at (b .1);
-      few = omega (arith, ap length (rw nx14 at c));
+      commands = rw past at c;
+      sound = rw past at (b .1);
+      few = omega (arith, ap length (rw past at c));
     }
 
 pub good : (s : List ℕ) → jobRefusal s ≡ done → Good s
@@ -164,7 +164,7 @@ good s = go (sound s) (ltb mostCommands (length (commands s))) refl refl
     go false b e f r = absurd (omega arith)
 
 pub commands-sane : (s : List ℕ) → Bytes s → Good s → AllSane s (commands s)
-commands-sane s b g = rw (g .commands) (all-sane s b (inside s 14) (g .sound))
+commands-sane s b g = rw (g .commands) (all-sane s b (inside s commandsStart) (g .sound))
 
 -- ---- a walk over a good job: the commands from `at` on are left
 
@@ -172,7 +172,7 @@ pub record Left (s : List ℕ) (at : ℕ) : Type 0 where
   pub sound : restSound s at ≡ true
   pub here : at ≤ length s
 
-pub left-start : (s : List ℕ) → Good s → Left s 14
+pub left-start : (s : List ℕ) → Good s → Left s commandsStart
 left-start s g = record { sound = g .sound; here = g .long }
 
 module _ (s : List ℕ) (at : ℕ) (g : Left s at) where
@@ -200,7 +200,7 @@ pub record Looked (s : List ℕ) (k at H : ℕ) (ks : List Command) (ds : List D
   pub all : length ks + length ds ≡ k
   pub fits : H ≤ limit
 
-pub looked-start : (s : List ℕ) → Good s → Looked s 0 14 0 [] []
+pub looked-start : (s : List ℕ) → Good s → Looked s 0 commandsStart 0 [] []
 unfolding jobHeight keptOf jobDropped
 looked-start s g =
     record { left = left-start s g; count = omega (arith, g .few); height = rw (g .commands); kept = rw (g .commands); dropped = rw (g .commands); all = refl; fits = omega arith }

@@ -82,7 +82,10 @@ sound s = soundRecords s (records s 0)
 
 -- ---- what a sound job says
 
--- the paper's body starts at byte 6
+-- the paper's record has 14 bytes, and its body starts at byte 6
+abbrev pub commandsStart : ℕ
+commandsStart = 14
+
 abbrev pub paperWidth : List ℕ → ℕ
 paperWidth s = le32 s 6
 

@@ -3,10 +3,9 @@ ghost use mathlib.Core.Path.{_≡_};
 ghost use mathlib.Core.Bool.{true};
 ghost use Prim.Native.Nat.{_+_, _≤_};
 ghost use lib.ListN.{length};
-ghost use Rattle.job.specs.Commands.{rectangleSize, imageSize, flipSize, soundPaper, soundCommand, paperWidth, paperColor, rectangleAt, imageAt, flipAt, commandAt};
+ghost use Rattle.job.specs.Commands.{rectangleSize, imageSize, flipSize, commandsStart, soundPaper, soundCommand, paperWidth, paperColor, rectangleAt, imageAt, flipAt, commandAt};
 use super::bytes::read_rgba;
 use super::bytes::read_u32;
-use super::kinds::COMMANDS_START;
 use super::kinds::FLIP;
 use super::kinds::FLIP_SIZE;
 use super::kinds::HEAD_SIZE;
@@ -96,14 +95,14 @@ pub(crate) fn sound_command(s: &[u8], kind: u16, at: usize, n: usize) -> bool
 }
 
 pub fn paper_width(s: &[u8]) -> u32
-    requires { ⌜ 14 ≤ length (now s) ⌝ }
+    requires { ⌜ commandsStart ≤ length (now s) ⌝ }
     ensures { λ r. ⌜ r ≡ paperWidth (now (s .entry)) ⌝ }
 {
     read_u32(s, HEAD_SIZE)
 }
 
 pub fn paper_color(s: &[u8]) -> RGBA
-    requires { ⌜ 14 ≤ length (now s) ⌝ }
+    requires { ⌜ commandsStart ≤ length (now s) ⌝ }
     ensures { λ r. ⌜ r ≡ paperColor (now (s .entry)) ⌝ }
 {
     read_rgba(s, HEAD_SIZE + 4)

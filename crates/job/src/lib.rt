@@ -3,7 +3,7 @@
 mod bytes;
 mod commands;
 mod dropping;
-mod kinds;
+pub mod kinds;
 mod records;
 
 ghost use mathlib.Core.Path.{_≡_};
@@ -24,8 +24,7 @@ use commands::sound_paper;
 pub use dropping::Dropped;
 pub use dropping::command_refusal;
 pub use dropping::height_after;
-pub use kinds::COMMANDS_START;
-pub use kinds::MOST_COMMANDS;
+use kinds::MOST_COMMANDS;
 use numbers::BAD_JOB;
 use numbers::DONE;
 use numbers::TOO_LONG;

@@ -7,7 +7,8 @@ use super::kinds::HEAD_SIZE;
 use super::kinds::KIND_SIZE;
 use super::kinds::LENGTH_SIZE;
 
-// A record's body is `size` bytes from `start` on, and what follows it stands at `next`.
+// A record's body is `size` bytes from `start` on, and what follows it stands at `next`. `Bad` is
+// bytes that are no record.
 pub enum Rec {
     Record {
         kind: u16,

@@ -41,11 +41,11 @@ fn agrees(s: &[u8], at: usize) -> bool
     let x = byte_at(s, at + 20);
     let answer = color_at(s, at + 23);
     match kind {
-        b'a' => same(dot.with_alpha(x), answer),
-        b'b' => same(dot.blend_foreground(color), answer),
-        b'm' => same(dot.multiply_foreground(color), answer),
-        b'n' => same(the_colors().color_for_number(x), answer),
-        b'w' => same(dot.blend_foreground_with_alpha(color, x), answer),
+        b'a' => same_color(dot.with_alpha(x), answer),
+        b'b' => same_color(dot.blend_foreground(color), answer),
+        b'm' => same_color(dot.multiply_foreground(color), answer),
+        b'n' => same_color(the_colors().color_for_number(x), answer),
+        b'w' => same_color(dot.blend_foreground_with_alpha(color, x), answer),
         _ => false,
     }
 }
@@ -79,6 +79,6 @@ pub fn the_colors() -> RenderColors {
     }
 }
 
-fn same(c: RGBA, d: RGBA) -> bool {
+pub fn same_color(c: RGBA, d: RGBA) -> bool {
     c.r == d.r && c.g == d.g && c.b == d.b && c.a == d.a
 }

@@ -3,6 +3,8 @@
 ghost use Prim.Native.Nat.{_+_, _*_, _≤_};
 ghost use lib.ListN.{length};
 use super::Tally;
+use super::buffers::checksum;
+use super::buffers::fill;
 use super::colour_list::the_colors;
 use super::hex::byte_at;
 use super::hex::color_at;
@@ -71,14 +73,6 @@ fn unpack(s: &[u8], at: usize, size: usize, data: &mut [u8])
     }
 }
 
-fn fill(out: &mut [u8], byte: u8) {
-    let mut i = 0;
-    while i < out.len() {
-        out[i] = byte;
-        i += 1;
-    }
-}
-
 // An unknown kind of line has no answer.
 fn decode(s: &[u8], at: usize, data: &[u8], out: &mut [u8]) -> Decoded
     requires { ⌜ at + 79 ≤ length (now s) ⌝ }
@@ -131,19 +125,4 @@ fn says(s: &[u8], at: usize, d: Decoded) -> bool
         return false;
     }
     d.w == number_at(s, at + 48, 8) && d.h == number_at(s, at + 57, 8)
-}
-
-// 32-bit FNV-1a.
-fn checksum(bytes: &[u8]) -> u32 {
-    let mut sum: u64 = 0x811c9dc5;
-    let mut i = 0;
-    while i < bytes.len() {
-        sum = (sum ^ wide(bytes[i])) % 0x1_0000_0000 * 0x0100_0193 % 0x1_0000_0000;
-        i += 1;
-    }
-    sum as u32
-}
-
-fn wide(x: u8) -> u64 {
-    x as u64
 }

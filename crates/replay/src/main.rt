@@ -1,8 +1,12 @@
 // Replays the fixed lists of the original's answers, and says of each how many lines agree with
 // this project and how many do not.
+mod buffers;
+mod canvas_list;
 mod colour_list;
 mod decoders_list;
+mod drawn;
 mod hex;
+mod said;
 
 use libc::STDOUT_FILENO;
 
@@ -12,6 +16,16 @@ fn main() {
     tell(
         b"decoders' refusals",
         decoders_list::replay(b"decoders_refusals.txt"),
+    );
+    tell(b"canvas", canvas_list::replay(b"canvas.txt"));
+    tell(
+        b"canvas's refusals",
+        canvas_list::replay(b"canvas_refusals.txt"),
+    );
+    tell(b"drawing", canvas_list::replay(b"drawing.txt"));
+    tell(
+        b"drawing's refusals",
+        canvas_list::replay(b"drawing_refusals.txt"),
     );
 }
 

@@ -1,2 +1,3 @@
 -- What crosses the boundary.
 pub mod Packed
+pub mod Records

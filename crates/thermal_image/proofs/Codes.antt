@@ -42,7 +42,7 @@ first-done a b = go (eqb a done) refl
     go false e r = absurd (eqb-false a done e r)
 
 -- a test that gave 0 failed
-passed : (t : Bool) {k : ℕ} → 0 < k → (if t then k else done) ≡ done → t ≡ false
+pub passed : (t : Bool) {k : ℕ} → 0 < k → (if t then k else done) ≡ done → t ≡ false
 passed true h r = absurd (omega arith)
 passed false h r = refl
 
@@ -91,7 +91,7 @@ module _ (t : ThermalImage) (n : ℕ) (a : t .width ≤ limit) (b : t .height �
   unsound-none h s =
       rw (le-ltb _ _ a, le-ltb _ _ b, ← flat-test (t .width) (t .height), ← e, le-ltb _ _ h, le-ltb n (4 * (t .width * t .height)) (omega arith))
 
-neither : (a b : Bool) → (a || b) ≡ false → (a ≡ false) × (b ≡ false)
+pub neither : (a b : Bool) → (a || b) ≡ false → (a ≡ false) × (b ≡ false)
 neither true b e = absurd (true≢false e)
 neither false b e = (refl, e)
 

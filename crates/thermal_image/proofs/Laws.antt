@@ -20,7 +20,7 @@ use Rattle.thermal_image.proofs.Codes.{grow-done, margin-done}
 use Rattle.thermal_image.proofs.Answers.{more-rows}
 
 -- a width has its rows
-rows-some : (W H : ℕ) → 0 < W → rowsOf W H ≡ H
+pub rows-some : (W H : ℕ) → 0 < W → rowsOf W H ≡ H
 unfolding rowsOf
 rows-some W H h = rw (ne-eqb W 0 (λ e. omega arith))
 
@@ -29,7 +29,7 @@ module _ (t : ThermalImage) where
   at x y = y * t .width + x
 
   -- dot (x, y) lies among the first h rows
-  within-rows : (x y h : ℕ) → x < t .width → y < h → at x y < t .width * h
+  pub within-rows : (x y h : ℕ) → x < t .width → y < h → at x y < t .width * h
   within-rows x y h a b = omega (arith, in-picture (t .width) h x y a b, mul-comm (t .width) h)
 
   -- ---- growing

@@ -1,4 +1,4 @@
 pub mod Codes
 pub mod Laws
-mod Answers
+pub mod Answers
 mod Unique

@@ -3,6 +3,10 @@
 mod refusals;
 mod sizes;
 
+// Inner steps of the refusals, for the crate that draws on a canvas.
+pub use refusals::first;
+pub use refusals::room_refusal;
+pub use refusals::unsound;
 ghost use mathlib.Core.Path.{_≡_};
 ghost use lib.ListN.{length};
 ghost use Rattle.thermal_image.specs.Canvas.{sized, finished, madeNew, rowsOf, grown, grownOn, lowered, lowerOn, widened, widenOn, setWidth, emptied, copied, copyOn, rgb, rgbOn, turned, turnOn};
@@ -20,7 +24,6 @@ use refusals::grow_refusal;
 use refusals::margin_refusal;
 use refusals::out_refusal;
 use refusals::rgb_refusal;
-use refusals::unsound;
 use refusals::wide_refusal;
 use refusals::widen_refusal;
 use refusals::width_refusal;

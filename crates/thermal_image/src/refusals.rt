@@ -10,7 +10,7 @@ use numbers::NO_ROOM;
 use numbers::TOO_LARGE;
 use numbers::TOO_TALL;
 
-fn first(number: u8, next: u8) -> u8
+pub fn first(number: u8, next: u8) -> u8
     ensures { λ r. ⌜ r ≡ first number next ⌝ }
 {
     if number != DONE {
@@ -38,7 +38,7 @@ pub(crate) fn wide_refusal(w: u32) -> u8
 }
 
 // A product of two u32 fits a usize, and four times it may not: so the length is divided.
-fn room_refusal(w: u32, h: u32, n: usize) -> u8
+pub fn room_refusal(w: u32, h: u32, n: usize) -> u8
     ensures { λ r. ⌜ r ≡ roomRefusal w h n ⌝ }
 {
     if n / 4 < w as usize * h as usize {
@@ -56,7 +56,7 @@ fn rgb_room_refusal(w: u32, h: u32, n: usize) -> u8
     DONE
 }
 
-pub(crate) fn unsound(t: ThermalImage, n: usize) -> u8
+pub fn unsound(t: ThermalImage, n: usize) -> u8
     ensures { λ r. ⌜ r ≡ unsound t n ⌝ }
 {
     if t.width > ThermalImage::LIMIT {

@@ -1,10 +1,10 @@
--- `replay::decoders_list::fill` meets its contract. Assumes nothing.
+-- `replay::buffers::fill` meets its contract. Assumes nothing.
 use mathlib.Core.Path.{_≡_}
 use Prim.Native.Nat.{_-_, _≤_}
 use lib.ListN.{length}
 use borrow.Author.Needs.{needs}
-use Rattle.replay.proofs.decoders_list.fill.Statement.{statement}
-use Rattle.replay.proofs.decoders_list.fill.Tie as tie
+use Rattle.replay.proofs.buffers.fill.Statement.{statement}
+use Rattle.replay.proofs.buffers.fill.Tie as tie
 
 abbrev Inv-loop : tie.InvT-loop
 Inv-loop out₀ byte i₀ out i = (i ≤ length out₀) × (length out ≡ length out₀)

@@ -1,9 +1,9 @@
--- `replay::decoders_list::checksum` meets its contract. Assumes nothing.
+-- `replay::buffers::checksum` meets its contract. Assumes nothing.
 use Prim.Native.Nat.{_-_, _≤_, _^_, _<_}
 use lib.ListN.{length}
 use borrow.Author.Needs.{needs}
-use Rattle.replay.proofs.decoders_list.checksum.Statement.{statement}
-use Rattle.replay.proofs.decoders_list.checksum.Tie as tie
+use Rattle.replay.proofs.buffers.checksum.Statement.{statement}
+use Rattle.replay.proofs.buffers.checksum.Tie as tie
 
 abbrev Inv-loop : tie.InvT-loop
 Inv-loop bytes sum₀ i₀ sum i = (i ≤ length bytes) × (sum < 2 ^ 32)

@@ -1,0 +1,3 @@
+-- What the contracts of drawing say: document 01, "Canvas".
+pub mod Drawing
+pub mod Steps
