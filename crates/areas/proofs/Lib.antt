@@ -1,5 +1,5 @@
 pub mod Laws
-mod Rows
+pub mod Rows
 mod Pixels
 mod Flips
 mod Borders

@@ -1,0 +1,69 @@
+-- One entry of a row plan, and what it does to a dot: 01, "Row plans".
+use Prim.Native.Nat.{ℕ, _+_, _-_, _*_, _≤_}
+use mathlib.Core.Path.{_≡_}
+use mathlib.Core.Bool.{Bool, true, _&&_, _||_}
+use mathlib.Core.List.{List}
+use lib.ListN.{length, drop}
+use lib.Dec.{leb, eqb}
+use Rattle.numbers.specs.Numbers.{limit}
+use Rattle.colour.specs.Choice.{if_then_else_}
+use Rattle.colour.specs.declared.RGBA.{RGBA}
+use Rattle.dots.specs.Dots.{drawn}
+use Rattle.graphics.specs.declared.formats.Format.the-variants.{Bits}
+use Rattle.graphics.specs.Formats.{bytesOf}
+use Rattle.graphics.specs.Decoding.{pixelOf}
+use Rattle.areas.specs.Areas.{inArea, areaOn}
+use Rattle.job.specs.Commands.{rectangleKind, imageKind, soundMode}
+use Rattle.entries.specs.declared.Entry.{Entry}
+
+-- ---- the rules that an entry keeps, in a plan W wide and H high with n bytes of data
+
+-- factors 1 to 255, original height times factor = h, original width times factor ≥ w, and a data part inside the given bytes
+unfoldable pub goodImage : ℕ → Entry → Bool
+goodImage n e =
+    leb 1 (e .«stretch_x») && leb (e .«stretch_x») 255
+    && (leb 1 (e .«stretch_y») && leb (e .«stretch_y») 255)
+    && eqb (e .«original_height» * e .«stretch_y») (e .h)
+    && leb (e .w) (e .«original_width» * e .«stretch_x»)
+    && leb (e .start + bytesOf Bits (e .«original_width») (e .«original_height»)) n
+
+-- a kind that translation makes
+unfoldable pub goodKind : ℕ → Entry → Bool
+goodKind n e = eqb (e .kind) rectangleKind || (eqb (e .kind) imageKind && goodImage n e)
+
+-- mode 0 or 1, x + w ≤ W and y + h ≤ H
+unfoldable pub goodEntry : ℕ → ℕ → ℕ → Entry → Bool
+goodEntry W H n e = goodKind n e && soundMode (e .mode) && leb (e .x + e .w) W && leb (e .y + e .h) H
+
+-- ---- what an entry draws. s is the bytes that hold the data
+
+-- mode 1 multiplies
+abbrev pub multiplies : ℕ → Bool
+multiplies mode = eqb mode 1
+
+-- an image's pixel at column i, row j of its own: that of the image decoded from the data part
+unfoldable pub imagePixel : List ℕ → Entry → ℕ → ℕ → RGBA
+imagePixel s e i j =
+    pixelOf Bits (drop (e .start) s) (e .«original_width») (e .«original_height») (e .«stretch_x») (e .«stretch_y») (e .color) i j
+
+-- a rectangle's is the colour
+unfoldable pub entryPixel : List ℕ → Entry → ℕ → ℕ → RGBA
+entryPixel s e i j = if eqb (e .kind) rectangleKind then e .color else imagePixel s e i j
+
+-- the entry applied to the dot d at column i, row j
+unfoldable pub entryOn : List ℕ → Entry → ℕ → ℕ → RGBA → RGBA
+entryOn s e i j d =
+    if inArea (e .x) (e .y) (e .w) (e .h) i j then drawn (multiplies (e .mode)) (entryPixel s e (i - e .x) (j - e .y)) d else d
+
+-- ---- the entry on rows of a buffer
+
+-- row `from` of the picture and those after it stand in a buffer from row `top` on, W dots wide
+unfoldable pub entryRows : List ℕ → Entry → ℕ → ℕ → ℕ → ℕ → List ℕ → List ℕ
+entryRows s e W top from rows l = areaOn W 0 top W rows (λ i j d. entryOn s e i (from + j) d) l
+
+-- sizes for which no sum wraps, and rows that lie in a buffer of n bytes
+pub record Placed (W top from rows n : ℕ) : Type 0 where
+  pub some : 1 ≤ W
+  pub wide : W ≤ limit
+  pub last : from + rows ≤ limit
+  pub room : (top + rows) * W * 4 ≤ n

@@ -1,0 +1,2 @@
+-- What the contracts of entries say: document 01, "Row plans".
+pub mod Entries

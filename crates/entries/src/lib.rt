@@ -1,0 +1,99 @@
+// One entry of a row plan: a rectangle or an image, cropped and in its final place, and how it is
+// drawn on rows of dots. The run, the plan and the lent list all draw by `draw_entry`.
+mod image;
+mod rules;
+
+ghost use mathlib.Core.Path.{_≡_};
+ghost use mathlib.Core.Bool.{true};
+ghost use Prim.Native.Nat.{_+_, _≤_, min, max};
+ghost use lib.ListN.{length};
+ghost use Rattle.numbers.specs.Numbers.{limit};
+ghost use Rattle.entries.specs.Entries.{goodEntry, entryRows, Placed};
+use areas::draw_area;
+use colour::RGBA;
+use image::image_rows;
+pub use rules::good_entry;
+
+// Kind and mode are the job's numbers. A rectangle has zeros from the stretch on; the bit rows of an
+// image stand in the job's bytes from `start` on.
+#[repr(C)]
+pub struct Entry {
+    pub kind: u8,
+    pub mode: u8,
+    pub stretch_x: u8,
+    pub stretch_y: u8,
+    pub color: RGBA,
+    pub x: u32,
+    pub y: u32,
+    pub w: u32,
+    pub h: u32,
+    pub original_width: u32,
+    pub original_height: u32,
+    pub start: usize,
+}
+
+impl Entry {
+    pub const RECTANGLE: u8 = 2;
+
+    pub const IMAGE: u8 = 3;
+
+    pub const BLEND: u8 = 0;
+
+    pub const MULTIPLY: u8 = 1;
+}
+
+fn larger(a: usize, b: usize) -> usize
+    ensures { λ r. ⌜ r ≡ max a b ⌝ }
+{
+    if a < b {
+        return b;
+    }
+    a
+}
+
+fn smaller(a: usize, b: usize) -> usize
+    ensures { λ r. ⌜ r ≡ min a b ⌝ }
+{
+    if a < b {
+        return a;
+    }
+    b
+}
+
+// The entry's part of the rows that stand in the buffer.
+pub fn draw_entry(
+    buf: &mut [u8],
+    wide: usize,
+    top: usize,
+    e: Entry,
+    from: usize,
+    rows: usize,
+    data: &[u8],
+)
+    requires { ⌜ Placed wide top from rows (length (now buf)) × (goodEntry wide limit (length (now «data»)) e ≡ true) ⌝ }
+    ensures { λ _. ⌜ now (buf .exit) ≡ entryRows (now («data» .entry)) e wide top from rows (now (buf .entry)) ⌝ }
+{
+    let first = larger(from, e.y as usize);
+    let last = smaller(from + rows, e.y as usize + e.h as usize);
+    if last <= first {
+        return;
+    }
+    let row = top + (first - from);
+    let multiply = e.mode == Entry::MULTIPLY;
+    if e.kind == Entry::RECTANGLE {
+        let x = e.x as usize;
+        draw_area(
+            buf,
+            wide,
+            x,
+            row,
+            e.w as usize,
+            last - first,
+            e.color,
+            multiply,
+        );
+        return;
+    }
+    let own = first - e.y as usize;
+    image_rows(buf, wide, row, e, own, last - first, data, multiply);
+}
