@@ -17,7 +17,7 @@ use Rattle.graphics.specs.declared.formats.Format.the-variants.{Bits}
 use Rattle.graphics.specs.Formats.{alphaOf, bytesOf}
 use Rattle.graphics.specs.Decoding.{pixelOf}
 use Rattle.entries.specs.declared.Entry.{Entry}
-use Rattle.entries.specs.Entries.{goodImage, imagePixel}
+use Rattle.entries.specs.Entries.{goodStretch, goodImage, imagePixel}
 
 pub both-true : (a b : Bool) → (a && b) ≡ true → (a ≡ true) × (b ≡ true)
 both-true true b e = (refl, e)
@@ -32,7 +32,7 @@ pub record Image (n : ℕ) (e : Entry) : Type 0 where
   pub part : e .start + rowBytes (e .«original_width») * e .«original_height» ≤ n
 
 pub image-rules : (n : ℕ) (e : Entry) → goodImage n e ≡ true → Image n e
-unfolding goodImage bytesOf
+unfolding goodImage goodStretch bytesOf
 image-rules n e h =
     let a = both-true _ _ h in
     let b = both-true _ _ (a .0) in

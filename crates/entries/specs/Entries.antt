@@ -18,14 +18,17 @@ use Rattle.entries.specs.declared.Entry.{Entry}
 
 -- ---- the rules that an entry keeps, in a plan W wide and H high with n bytes of data
 
--- factors 1 to 255, original height times factor = h, original width times factor ≥ w, and a data part inside the given bytes
-unfoldable pub goodImage : ℕ → Entry → Bool
-goodImage n e =
+-- an image: factors 1 to 255, original height times factor = h, original width times factor ≥ w
+unfoldable pub goodStretch : Entry → Bool
+goodStretch e =
     leb 1 (e .«stretch_x») && leb (e .«stretch_x») 255
     && (leb 1 (e .«stretch_y») && leb (e .«stretch_y») 255)
     && eqb (e .«original_height» * e .«stretch_y») (e .h)
     && leb (e .w) (e .«original_width» * e .«stretch_x»)
-    && leb (e .start + bytesOf Bits (e .«original_width») (e .«original_height»)) n
+
+-- and a data part inside the given bytes
+unfoldable pub goodImage : ℕ → Entry → Bool
+goodImage n e = goodStretch e && leb (e .start + bytesOf Bits (e .«original_width») (e .«original_height»)) n
 
 -- a kind that translation makes
 unfoldable pub goodKind : ℕ → Entry → Bool
@@ -33,7 +36,7 @@ goodKind n e = eqb (e .kind) rectangleKind || (eqb (e .kind) imageKind && goodIm
 
 -- mode 0 or 1, x + w ≤ W and y + h ≤ H
 unfoldable pub goodEntry : ℕ → ℕ → ℕ → Entry → Bool
-goodEntry W H n e = goodKind n e && soundMode (e .mode) && leb (e .x + e .w) W && leb (e .y + e .h) H
+goodEntry W H n e = soundMode (e .mode) && leb (e .x + e .w) W && leb (e .y + e .h) H && goodKind n e
 
 -- ---- what an entry draws. s is the bytes that hold the data
 

@@ -1,13 +1,11 @@
-// The rules that an entry of a plan keeps. Original sizes have no limit of their own, so products
-// are compared without wrapping.
+// The rules that an entry of a plan keeps. Original sizes have no limit of their own; products of
+// two u32 fit a usize, and what is left of the given bytes is compared, so that nothing wraps.
 ghost use mathlib.Core.Path.{_≡_};
-ghost use Prim.Native.Nat.{_≤_};
-ghost use Rattle.entries.specs.Entries.{goodImage, goodKind, goodEntry};
+ghost use Rattle.entries.specs.Entries.{goodStretch, goodImage, goodKind, goodEntry};
 use super::Entry;
 
-// A product of two u32 fits a usize, and a third of it is added to no more than what is left.
-fn good_image(n: usize, e: Entry) -> bool
-    ensures { λ r. ⌜ r ≡ goodImage n e ⌝ }
+fn good_stretch(e: Entry) -> bool
+    ensures { λ r. ⌜ r ≡ goodStretch e ⌝ }
 {
     if e.stretch_x == 0 {
         return false;
@@ -18,13 +16,20 @@ fn good_image(n: usize, e: Entry) -> bool
     if e.original_height as usize * e.stretch_y as usize != e.h as usize {
         return false;
     }
-    if (e.original_width as usize * e.stretch_x as usize) < e.w as usize {
-        return false;
-    }
+    e.w as usize <= e.original_width as usize * e.stretch_x as usize
+}
+
+fn good_image(n: usize, e: Entry) -> bool
+    ensures { λ r. ⌜ r ≡ goodImage n e ⌝ }
+{
     if n < e.start {
         return false;
     }
-    (e.original_width as usize + 7) / 8 * e.original_height as usize <= n - e.start
+    let size = (e.original_width as usize + 7) / 8 * e.original_height as usize;
+    if n - e.start < size {
+        return false;
+    }
+    good_stretch(e)
 }
 
 fn good_kind(n: usize, e: Entry) -> bool
@@ -42,14 +47,14 @@ fn good_kind(n: usize, e: Entry) -> bool
 pub fn good_entry(width: u32, height: u32, n: usize, e: Entry) -> bool
     ensures { λ r. ⌜ r ≡ goodEntry width height n e ⌝ }
 {
-    if !good_kind(n, e) {
-        return false;
-    }
     if e.mode > Entry::MULTIPLY {
         return false;
     }
     if e.x as usize + e.w as usize > width as usize {
         return false;
     }
-    e.y as usize + e.h as usize <= height as usize
+    if e.y as usize + e.h as usize > height as usize {
+        return false;
+    }
+    good_kind(n, e)
 }

@@ -20,9 +20,6 @@ in-part : (c : tie.Start)
     e .start + c .args .j / e .«stretch_y» * rowBytes (e .«original_width») + rowBytes (e .«original_width») ≤ length (now (c .args .«data»))
 in-part c = row-in-part (rules c) (c .pre .0 .1)
 
-abbrev begun : tie.After-struct-known2 → tie.Start
-begun c = c .before .before .before .before .before
-
 cast-size : tie.Need-cast-size
 cast-size c = omega arith
 
@@ -33,13 +30,13 @@ cast-from : tie.Need-cast-from
 cast-from c = omega arith
 
 div-from : tie.Need-div-from
-div-from c = omega (arith, rules (begun c) .fy)
+div-from c = omega (arith, rules (c .before .before .before .before) .fy)
 
 mul-from : tie.Need-mul-from
-mul-from c = omega (arith, in-part (begun c))
+mul-from c = omega (arith, in-part (c .before .before .before .before))
 
 add-from : tie.Need-add-from
-add-from c = omega (arith, in-part (begun c))
+add-from c = omega (arith, in-part (c .before .before .before .before .before))
 
 cast-fx : tie.Need-cast-fx
 cast-fx c = omega arith

@@ -44,23 +44,23 @@ loop-holds : tie.Need-loop-holds Inv-loop μ-loop
 loop-holds c = rows-start _ _ _ _ _ _ _
 
 add-image-row : tie.Need-add-image-row Inv-loop μ-loop
-add-image-row c = omega (arith, room c)
+add-image-row c = omega (arith, room (c .before))
 
 mul-image-row : tie.Need-mul-image-row Inv-loop μ-loop
-mul-image-row c = omega (arith, room c)
+mul-image-row c = omega (arith, room (c .before))
 
 add-image-row-2 : tie.Need-add-image-row-2 Inv-loop μ-loop
-add-image-row-2 c = omega (arith, room c)
+add-image-row-2 c = omega (arith, room (c .before))
 
 add-image-row-3 : tie.Need-add-image-row-3 Inv-loop μ-loop
-add-image-row-3 c = omega (arith, room c)
+add-image-row-3 c = omega (arith, room (c .before))
 
 image-row-requires : tie.Need-image-row-requires Inv-loop μ-loop
 image-row-requires c κs =
     let l = c .before .before .before .before in
     let t = l .before .before in
-    let s = t .before .before .before .before .before in
-    ((s .pre .0, omega (arith, s .pre .1), omega (arith, s .pre .3 .across), omega (arith, room (c .before .before .before))), rw (t .before .before .with-alpha .ensures) (t .before .mix-factors .ensures, t .mix-terms .ensures))
+    let s = t .before .before .before .before .before .before in
+    ((s .pre .0, omega (arith, s .pre .1), omega (arith, s .pre .3 .across), omega (arith, room (c .before .before .before))), rw (← t .before .before .with-alpha .ensures) (t .before .mix-factors .ensures, t .mix-terms .ensures))
 
 add-j : tie.Need-add-j Inv-loop μ-loop
 add-j c = search needs
