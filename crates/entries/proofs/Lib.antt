@@ -1,3 +1,4 @@
 mod Tests
 mod Images
 mod Drawing
+mod Unique

@@ -1,11 +1,15 @@
 -- Each public function's contract leaves one content of the written buffer. Assumes nothing.
 use denote.Ref.{now}
 use Rattle.colour.proofs.OneAnswer.{OneContent, both}
+use Rattle.moves.proofs.run.move_run.Reads as move-run
 use Rattle.moves.proofs.lower.move_down.Reads as move-down
 use Rattle.moves.proofs.widening.widen.Reads as widen
 use Rattle.moves.proofs.turning.turn.Reads as turn
 use Rattle.moves.proofs.copy.copy_dots.Reads as copy-dots
 use Rattle.moves.proofs.rgb.rgb_bytes.Reads as rgb-bytes
+
+move-run-one : OneContent move-run.Post (λ k e. now (e .0))
+move-run-one k a x y e f p q = both p q
 
 move-down-one : OneContent move-down.Post (λ k e. now (e .0))
 move-down-one k a x y e f p q = both p q
