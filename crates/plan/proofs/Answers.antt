@@ -1,0 +1,113 @@
+-- What the functions of a translation answer. Assumes nothing.
+use Prim.Native.Nat.{ℕ, suc, _+_, _*_, _-_, _≤_, _<_, min, max}
+use mathlib.Core.Path.{_≡_, refl, ap, sym, _∙_}
+use mathlib.Core.List.{List, []}
+use mathlib.Core.Bool.{Bool, true, false}
+use native.Mathlib.Nat.{add-zero}
+use native.Mathlib.Numerals.{add-one}
+use borrow.Author.Tests.{eq-eqb, ne-eqb}
+use lib.ListN.{getD, set}
+use Rattle.numbers.specs.Numbers.{done, notTranslated}
+use Rattle.colour.specs.Choice.{if_then_else_}
+use Rattle.colour.specs.Colour.{blank}
+use Rattle.colour.specs.declared.RGBA.{RGBA}
+use Rattle.graphics.specs.Decoding.{factor}
+use Rattle.job.specs.declared.commands.Command.{Command}
+use Rattle.job.specs.declared.commands.Command.the-variants.{Rectangle, Image, Margin, Flip}
+use Rattle.job.specs.Commands.{rectangleKind, imageKind, commands}
+use Rattle.job.specs.Dropping.{refusal, jobRefusal}
+use Rattle.entries.specs.declared.Entry.{Entry}
+use Rattle.plan.specs.declared.Plan.{Plan}
+use Rattle.plan.specs.declared.Translated.{Translated}
+use Rattle.plan.specs.Plan.{rectangleEntry, imageEntry, noEntry, planWith, planOf, hasFlip, translateRefusal, translated}
+use Rattle.plan.specs.Steps.{lower, lowered, withEntries, pushed, leftOut, planned, stepped}
+use Rattle.plan.proofs.Listed.{set-lowered}
+
+-- ---- an entry pushed
+
+pub rectangle-planned : (p : Plan) {r : Plan} (x y w h : ℕ) (c : RGBA) (m : ℕ) {cut tall : ℕ} → cut ≡ min w (p .width - x) → tall ≡ max (p .height) (y + h)
+    → r ≡ pushed p tall (record {
+      kind = rectangleKind;
+      mode = m;
+      «stretch_x» = 0;
+      «stretch_y» = 0;
+      color = c;
+      x = x;
+      y = y;
+      w = cut;
+      h = h;
+      «original_width» = 0;
+      «original_height» = 0;
+      start = 0;
+    })
+    → r ≡ planned p (Rectangle x y w h c m)
+unfolding planned rectangleEntry
+rectangle-planned p x y w h c m e f g = g ∙ rw (e, f, add-zero y)
+
+pub image-planned : (p : Plan) {r : Plan} (x y w h sx sy : ℕ) (c : RGBA) (m start size : ℕ) {fx fy cut tall : ℕ} → fx ≡ factor sx → fy ≡ factor sy
+    → cut ≡ min (w * fx) (p .width - x) → tall ≡ max (p .height) (y + h * fy)
+    → r ≡ pushed p tall (record {
+      kind = imageKind;
+      mode = m;
+      «stretch_x» = fx;
+      «stretch_y» = fy;
+      color = c;
+      x = x;
+      y = y;
+      w = cut;
+      h = h * fy;
+      «original_width» = w;
+      «original_height» = h;
+      start = start;
+    })
+    → r ≡ planned p (Image x y w h sx sy c m start size)
+unfolding planned imageEntry
+image-planned p x y w h sx sy c m start size a b e f g = g ∙ rw (e, f, a, b, add-zero y)
+
+pub scaled : (w : ℕ) {f g b : ℕ} → f ≡ g → w * g ≤ b → w * f ≤ b
+scaled w e h = rw e h
+
+pub reached : (y h : ℕ) {f g b : ℕ} → f ≡ g → y + h * g ≤ b → y + h * f ≤ b
+reached y h e k = rw e k
+
+-- ---- entries moved down
+
+pub lower-step : {p : Plan} (p₀ : Plan) (h n m i : ℕ) → p ≡ withEntries p₀ h n (lowered m i (p₀ .entries))
+    → withEntries p (p .height) (p .count) (set (p .entries) i (lower m (getD (p .entries) i noEntry))) ≡ withEntries p₀ h n (lowered m (i + 1) (p₀ .entries))
+lower-step {p} p₀ h n m i e = rw (e, add-one, ← set-lowered m i (p₀ .entries)) refl
+
+-- ---- a step
+
+module _ (p : Plan) (k : ℕ) (d : Command) {why : ℕ} (e : why ≡ refusal (p .width) (p .height) d) where
+  pub step-out : (why ≡ done → ⊥) → {r : Plan} → r ≡ leftOut p k why → r ≡ stepped p k d
+  unfolding stepped
+  step-out n g = g ∙ rw (ne-eqb (refusal (p .width) (p .height) d) done (λ z. n (e ∙ z)), e)
+
+  pub step-in : why ≡ done → {r : Plan} {d' : Command} → d ≡ d' → r ≡ planned p d' → r ≡ stepped p k d
+  unfolding stepped
+  step-in z q g = g ∙ rw (eq-eqb (refusal (p .width) (p .height) d) done (sym e ∙ z), q)
+
+  pub step-flip : why ≡ done → {x y w h : ℕ} → d ≡ Flip x y w h → p ≡ stepped p k d
+  unfolding stepped planned
+  step-flip z q = rw (eq-eqb (refusal (p .width) (p .height) d) done (sym e ∙ z), q)
+
+  pub kept-of : why ≡ done → refusal (p .width) (p .height) d ≡ done
+  kept-of z = sym e ∙ z
+
+-- ---- the answer of a translation
+
+module _ (s : List ℕ) {number : ℕ} (e : number ≡ jobRefusal s) where
+  pub refused-job : (number ≡ done → ⊥) → {p : Plan} → p ≡ planWith 0 blank 0 [] [] → _≡_ {A = Translated} (record { number = number; plan = p }) (translated s)
+  unfolding translated translateRefusal
+  refused-job n q = rw (q, ← e, ne-eqb number done n, ne-eqb number done n)
+
+  pub refused-flip : number ≡ done → true ≡ hasFlip (commands s) → {p : Plan} → p ≡ planWith 0 blank 0 [] [] → _≡_ {A = Translated} (record { number = notTranslated; plan = p }) (translated s)
+  unfolding translated translateRefusal
+  refused-flip z h q = rw (q, ← e, z, ← h)
+
+  pub given-plan : number ≡ done → false ≡ hasFlip (commands s) → {p : Plan} → p ≡ planOf s → _≡_ {A = Translated} (record { number = done; plan = p }) (translated s)
+  unfolding translated translateRefusal
+  given-plan z h q = rw (q, ← e, z, ← h)
+
+pub plan-with : {p : Plan} {w v : ℕ} {c b : RGBA} → w ≡ v → c ≡ b → p ≡ planWith w c 0 [] [] → p ≡ planWith v b 0 [] []
+plan-with e f g = g ∙ rw (e, f)

@@ -1,0 +1,4 @@
+mod Listed
+mod Going
+mod Answers
+mod Unique

@@ -1,0 +1,6 @@
+-- The public function's contract leaves one answer. Assumes nothing.
+use Rattle.colour.proofs.OneAnswer.{OneAnswer, both}
+use Rattle.plan.proofs.translate.Reads as translate
+
+translate-one : OneAnswer translate.Post
+translate-one k a x y e f p q = both p q

@@ -1,0 +1,19 @@
+-- `plan::fresh` meets its contract. Assumes nothing.
+use mathlib.Core.Path.{refl}
+use Rattle.plan.specs.Plan.{padded}
+use borrow.Author.Needs.{needs}
+use Rattle.plan.proofs.fresh.Statement.{statement}
+use Rattle.plan.proofs.fresh.Tie as tie
+use Rattle.plan.proofs.fresh.Reads as reads
+use Rattle.plan.proofs.fresh.Lts as lts
+use Rattle.plan.proofs.no_entry.Reads as no-entry-reads
+
+no-entry-requires : tie.Need-no-entry-requires
+no-entry-requires c κs = search needs
+
+returns : tie.Need-returns
+unfolding padded
+returns c = rw (c .no-entry .ensures) refl
+
+pub fresh-spec : {M : Type 1} → statement M
+fresh-spec = tie.close (tie.spec no-entry-requires returns)

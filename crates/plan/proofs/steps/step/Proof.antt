@@ -1,0 +1,77 @@
+-- `plan::steps::step` meets its contract. Assumes nothing.
+use native.Mathlib.Omega.{arith}
+use Rattle.job.proofs.Reasons.{rectangle-kept, stretched-kept, margin-kept}
+use Rattle.plan.specs.Steps.{planned}
+use Rattle.plan.proofs.Answers.{step-out, step-in, step-flip, kept-of}
+use borrow.Author.Needs.{needs}
+use Rattle.plan.proofs.steps.step.Statement.{statement}
+use Rattle.plan.proofs.steps.step.Tie as tie
+use Rattle.plan.proofs.steps.step.Reads as reads
+use Rattle.plan.proofs.steps.step.Lts as lts
+use Rattle.job.proofs.command_refusal.Reads as command-refusal-reads
+use Rattle.plan.proofs.steps.leave_out.Reads as leave-out-reads
+use Rattle.plan.proofs.steps.plan_image.Reads as plan-image-reads
+use Rattle.plan.proofs.steps.plan_rectangle.Reads as plan-rectangle-reads
+use Rattle.plan.proofs.steps.shift.Reads as shift-reads
+
+command-refusal-requires : tie.Need-command-refusal-requires
+command-refusal-requires c κs = search needs
+
+leave-out-requires : tie.Need-leave-out-requires
+leave-out-requires c κs = search needs
+
+returns : tie.Need-returns
+returns c = step-out _ _ _ (c .before .before .command-refusal .ensures) (c .before .if1 .taken) (c .leave-out .ensures)
+
+enum-known-c : tie.Need-enum-known-c
+enum-known-c c = search needs
+
+plan-rectangle-requires : tie.Need-plan-rectangle-requires
+plan-rectangle-requires c κs = let f = rectangle-kept _ _ (kept-of (c .before .before .before .before .before .args .p) 0 _ (c .before .before .before .before .command-refusal .ensures) (c .before .before .before .if1 .left)) (c .before .c .given .1) in omega (arith, f .on, f .fits)
+
+enum-known-c-2 : tie.Need-enum-known-c-2
+enum-known-c-2 c = search needs
+
+plan-image-requires : tie.Need-plan-image-requires
+plan-image-requires c κs = let f = stretched-kept _ _ (kept-of (c .before .before .before .before .before .args .p) 0 _ (c .before .before .before .before .command-refusal .ensures) (c .before .before .before .if1 .left)) (c .before .c2 .given .1) .put in omega (arith, f .on, f .wide, f .fits)
+
+enum-known-c-3 : tie.Need-enum-known-c-3
+enum-known-c-3 c = search needs
+
+shift-requires : tie.Need-shift-requires
+shift-requires c κs = record { few = omega arith; tall = margin-kept _ _ (kept-of (c .before .before .before .before .before .args .p) 0 _ (c .before .before .before .before .command-refusal .ensures) (c .before .before .before .if1 .left)) (c .before .c3 .given .1); low = c .before .before .before .before .before .pre .low }
+
+enum-told : tie.Need-enum-told
+enum-told c = search needs
+
+returns-2 : tie.Need-returns-2
+returns-2 c = step-in _ _ _ (c .before .before .before .before .before .command-refusal .ensures) (c .before .before .before .before .if1 .left) (c .before .before .c .given .1) (c .plan-rectangle .ensures)
+
+returns-3 : tie.Need-returns-3
+returns-3 c = step-in _ _ _ (c .before .before .before .before .before .command-refusal .ensures) (c .before .before .before .before .if1 .left) (c .before .before .c2 .given .1) (c .plan-image .ensures)
+
+returns-4 : tie.Need-returns-4
+unfolding planned
+returns-4 c = step-in _ _ _ (c .before .before .before .before .before .command-refusal .ensures) (c .before .before .before .before .if1 .left) (c .before .before .c3 .given .1) (c .shift .ensures)
+
+returns-5 : tie.Need-returns-5
+returns-5 c = step-flip _ _ _ (c .before .before .before .command-refusal .ensures) (c .before .before .if1 .left) (c .enum-told .given .1)
+
+pub step-spec : {M : Type 1} → statement M
+step-spec =
+    tie.close
+    (tie.spec
+    command-refusal-requires
+    leave-out-requires
+    returns
+    enum-known-c
+    plan-rectangle-requires
+    enum-known-c-2
+    plan-image-requires
+    enum-known-c-3
+    shift-requires
+    enum-told
+    returns-2
+    returns-3
+    returns-4
+    returns-5)

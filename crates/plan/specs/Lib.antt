@@ -1,0 +1,3 @@
+-- What the contracts of plan say: document 01, "Row plans".
+pub mod Plan
+pub mod Steps
