@@ -1,14 +1,12 @@
 //! Drawing on the canvas.
 
-use super::canvas::{Answer, CanvasAnswer};
+use super::canvas::{Answer, CanvasAnswer, ThermalImage};
+use super::Rgba;
 use oracle::canvas::{Area, Operation, Record};
 
 unsafe extern "C" {
     fn thermal_put_pixels(
-        width: u32,
-        height: u32,
-        auto_grow: bool,
-        paper_color: u32,
+        image: ThermalImage,
         x: u32,
         y: u32,
         w: u32,
@@ -20,37 +18,28 @@ unsafe extern "C" {
         length: usize,
     ) -> CanvasAnswer;
     fn thermal_draw_rect(
-        width: u32,
-        height: u32,
-        auto_grow: bool,
-        paper_color: u32,
+        image: ThermalImage,
         x: u32,
         y: u32,
         w: u32,
         h: u32,
-        color: u32,
+        color: Rgba,
         multiply: bool,
         buf: *mut u8,
         length: usize,
     ) -> CanvasAnswer;
     fn thermal_put_rect(
-        width: u32,
-        height: u32,
-        auto_grow: bool,
-        paper_color: u32,
+        image: ThermalImage,
         x: u32,
         y: u32,
         w: u32,
         h: u32,
-        color: u32,
+        color: Rgba,
         buf: *mut u8,
         length: usize,
     ) -> CanvasAnswer;
     fn thermal_put_render_img(
-        width: u32,
-        height: u32,
-        auto_grow: bool,
-        paper_color: u32,
+        image: ThermalImage,
         x: u32,
         y: u32,
         w: u32,
@@ -62,10 +51,7 @@ unsafe extern "C" {
         length: usize,
     ) -> CanvasAnswer;
     fn thermal_flip_pixels(
-        width: u32,
-        height: u32,
-        auto_grow: bool,
-        paper_color: u32,
+        image: ThermalImage,
         x: u32,
         y: u32,
         w: u32,
@@ -73,17 +59,12 @@ unsafe extern "C" {
         buf: *mut u8,
         length: usize,
     ) -> CanvasAnswer;
-    fn thermal_draw_border(w: u32, h: u32, color: u32, buf: *mut u8, length: usize) -> u8;
+    fn thermal_draw_border(w: u32, h: u32, color: Rgba, buf: *mut u8, length: usize) -> u8;
 }
 
 /// Calls an operation that draws with a record and its buffer.
 pub fn call(operation: &Operation, record: &Record, buf: &mut [u8]) -> Answer {
-    let Record {
-        width,
-        height,
-        auto_grow: grow,
-        paper_color: paper,
-    } = *record;
+    let image = ThermalImage::from(*record);
     let (b, n) = (buf.as_mut_ptr(), buf.len());
     // SAFETY: each address and length are those of a slice that is lent for the call.
     unsafe {
@@ -94,43 +75,27 @@ pub fn call(operation: &Operation, record: &Record, buf: &mut [u8]) -> Answer {
                 multiply,
             } => {
                 let (p, m) = (pixels.as_ptr(), pixels.len());
-                thermal_put_pixels(width, height, grow, paper, x, y, w, h, p, m, multiply, b, n)
+                thermal_put_pixels(image, x, y, w, h, p, m, multiply, b, n)
             }
             Operation::DrawRect {
                 area: Area { x, y, w, h },
                 color,
                 multiply,
-            } => thermal_draw_rect(
-                width, height, grow, paper, x, y, w, h, color, multiply, b, n,
-            ),
+            } => thermal_draw_rect(image, x, y, w, h, color.into(), multiply, b, n),
             Operation::PutRect {
                 area: Area { x, y, w, h },
                 color,
-            } => thermal_put_rect(width, height, grow, paper, x, y, w, h, color, b, n),
+            } => thermal_put_rect(image, x, y, w, h, color.into(), b, n),
             Operation::PutRenderImg {
                 area: Area { x, y, w, h },
                 ref pixels,
                 upside_down,
             } => {
                 let (p, m) = (pixels.as_ptr(), pixels.len());
-                thermal_put_render_img(
-                    width,
-                    height,
-                    grow,
-                    paper,
-                    x,
-                    y,
-                    w,
-                    h,
-                    p,
-                    m,
-                    upside_down,
-                    b,
-                    n,
-                )
+                thermal_put_render_img(image, x, y, w, h, p, m, upside_down, b, n)
             }
             Operation::FlipPixels(Area { x, y, w, h }) => {
-                thermal_flip_pixels(width, height, grow, paper, x, y, w, h, b, n)
+                thermal_flip_pixels(image, x, y, w, h, b, n)
             }
             _ => unreachable!("{} does not draw", operation.name()),
         }
@@ -140,5 +105,5 @@ pub fn call(operation: &Operation, record: &Record, buf: &mut [u8]) -> Answer {
 
 pub fn draw_border(w: u32, h: u32, color: u32, buf: &mut [u8]) -> u8 {
     // SAFETY: the address and the length are those of a slice that is lent for the call.
-    unsafe { thermal_draw_border(w, h, color, buf.as_mut_ptr(), buf.len()) }
+    unsafe { thermal_draw_border(w, h, color.into(), buf.as_mut_ptr(), buf.len()) }
 }

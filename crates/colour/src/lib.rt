@@ -9,6 +9,7 @@ use channel::blend_channel;
 use channel::multiply_channel;
 
 // A pixel: red, green, blue, and how opaque it is.
+#[repr(C)]
 pub struct RGBA {
     pub r: u8,
     pub g: u8,
@@ -112,6 +113,7 @@ impl RGBA {
 }
 
 // The colours that an image's layers name by number.
+#[repr(C)]
 pub struct RenderColors {
     pub paper_color: RGBA,
     pub color_1: RGBA,

@@ -1,2 +1,1 @@
-mod RoundTrip
 mod Unique

@@ -63,7 +63,7 @@ column-output k a x y e f p q = both (p .1) (q .1)
 layers-one : OneAnswer layers.Post
 layers-one k a x y e f p q = both (p .0) (q .0)
 
-layers-output : OneContent layers.Post (λ k e. now (e .1 .1 .1 .1 .1 .1 .1 .1 .1 .1 .1 .0))
+layers-output : OneContent layers.Post (λ k e. now (e .1 .1 .1 .1 .1 .1 .1 .1 .0))
 layers-output k a x y e f p q = both (p .1) (q .1)
 
 new-canvas-one : OneAnswer new-canvas.Post
@@ -75,19 +75,19 @@ get-height-one k a x y e f p q = both p q
 expand-to-height-one : OneAnswer expand-to-height.Post
 expand-to-height-one k a x y e f p q = both (p .0) (q .0)
 
-expand-to-height-content : OneContent expand-to-height.Post (λ k e. now (e .1 .1 .1 .1 .1 .0))
+expand-to-height-content : OneContent expand-to-height.Post (λ k e. now (e .1 .1 .0))
 expand-to-height-content k a x y e f p q = both (p .1) (q .1)
 
 add-top-margin-one : OneAnswer add-top-margin.Post
 add-top-margin-one k a x y e f p q = both (p .0) (q .0)
 
-add-top-margin-content : OneContent add-top-margin.Post (λ k e. now (e .1 .1 .1 .1 .1 .0))
+add-top-margin-content : OneContent add-top-margin.Post (λ k e. now (e .1 .1 .0))
 add-top-margin-content k a x y e f p q = both (p .1) (q .1)
 
 expand-to-width-one : OneAnswer expand-to-width.Post
 expand-to-width-one k a x y e f p q = both (p .0) (q .0)
 
-expand-to-width-content : OneContent expand-to-width.Post (λ k e. now (e .1 .1 .1 .1 .1 .0))
+expand-to-width-content : OneContent expand-to-width.Post (λ k e. now (e .1 .1 .0))
 expand-to-width-content k a x y e f p q = both (p .1) (q .1)
 
 set-width-one : OneAnswer set-width.Post
@@ -102,61 +102,61 @@ reset-one k a x y e f p q = both p q
 copy-out-one : OneAnswer copy-out.Post
 copy-out-one k a x y e f p q = both (p .0) (q .0)
 
-copy-out-output : OneContent copy-out.Post (λ k e. now (e .1 .1 .1 .1 .1 .0))
+copy-out-output : OneContent copy-out.Post (λ k e. now (e .1 .1 .0))
 copy-out-output k a x y e f p q = both (p .1) (q .1)
 
 consume-rgb-one : OneAnswer consume-rgb.Post
 consume-rgb-one k a x y e f p q = both (p .0) (q .0)
 
-consume-rgb-output : OneContent consume-rgb.Post (λ k e. now (e .1 .1 .1 .1 .1 .0))
+consume-rgb-output : OneContent consume-rgb.Post (λ k e. now (e .1 .1 .0))
 consume-rgb-output k a x y e f p q = both (p .1) (q .1)
 
 rotate-90-one : OneAnswer rotate-90.Post
 rotate-90-one k a x y e f p q = both (p .0) (q .0)
 
-rotate-90-output : OneContent rotate-90.Post (λ k e. now (e .1 .1 .1 .1 .1 .0))
+rotate-90-output : OneContent rotate-90.Post (λ k e. now (e .1 .1 .0))
 rotate-90-output k a x y e f p q = both (p .1) (q .1)
 
 rotate-180-one : OneAnswer rotate-180.Post
 rotate-180-one k a x y e f p q = both (p .0) (q .0)
 
-rotate-180-output : OneContent rotate-180.Post (λ k e. now (e .1 .1 .1 .1 .1 .0))
+rotate-180-output : OneContent rotate-180.Post (λ k e. now (e .1 .1 .0))
 rotate-180-output k a x y e f p q = both (p .1) (q .1)
 
 rotate-270-one : OneAnswer rotate-270.Post
 rotate-270-one k a x y e f p q = both (p .0) (q .0)
 
-rotate-270-output : OneContent rotate-270.Post (λ k e. now (e .1 .1 .1 .1 .1 .0))
+rotate-270-output : OneContent rotate-270.Post (λ k e. now (e .1 .1 .0))
 rotate-270-output k a x y e f p q = both (p .1) (q .1)
 
 put-pixels-one : OneAnswer put-pixels.Post
 put-pixels-one k a x y e f p q = both (p .0) (q .0)
 
-put-pixels-content : OneContent put-pixels.Post (λ k e. now (e .1 .1 .1 .1 .1 .1 .1 .1 .1 .1 .0))
+put-pixels-content : OneContent put-pixels.Post (λ k e. now (e .1 .1 .1 .1 .1 .1 .1 .0))
 put-pixels-content k a x y e f p q = both (p .1) (q .1)
 
 draw-rect-one : OneAnswer draw-rect.Post
 draw-rect-one k a x y e f p q = both (p .0) (q .0)
 
-draw-rect-content : OneContent draw-rect.Post (λ k e. now (e .1 .1 .1 .1 .1 .1 .1 .1 .1 .1 .0))
+draw-rect-content : OneContent draw-rect.Post (λ k e. now (e .1 .1 .1 .1 .1 .1 .1 .0))
 draw-rect-content k a x y e f p q = both (p .1) (q .1)
 
 put-rect-one : OneAnswer put-rect.Post
 put-rect-one k a x y e f p q = both (p .0) (q .0)
 
-put-rect-content : OneContent put-rect.Post (λ k e. now (e .1 .1 .1 .1 .1 .1 .1 .1 .1 .0))
+put-rect-content : OneContent put-rect.Post (λ k e. now (e .1 .1 .1 .1 .1 .1 .0))
 put-rect-content k a x y e f p q = both (p .1) (q .1)
 
 put-render-img-one : OneAnswer put-render-img.Post
 put-render-img-one k a x y e f p q = both (p .0) (q .0)
 
-put-render-img-content : OneContent put-render-img.Post (λ k e. now (e .1 .1 .1 .1 .1 .1 .1 .1 .1 .1 .0))
+put-render-img-content : OneContent put-render-img.Post (λ k e. now (e .1 .1 .1 .1 .1 .1 .1 .0))
 put-render-img-content k a x y e f p q = both (p .1) (q .1)
 
 flip-pixels-one : OneAnswer flip-pixels.Post
 flip-pixels-one k a x y e f p q = both (p .0) (q .0)
 
-flip-pixels-content : OneContent flip-pixels.Post (λ k e. now (e .1 .1 .1 .1 .1 .1 .1 .1 .0))
+flip-pixels-content : OneContent flip-pixels.Post (λ k e. now (e .1 .1 .1 .1 .1 .0))
 flip-pixels-content k a x y e f p q = both (p .1) (q .1)
 
 draw-border-one : OneAnswer draw-border.Post

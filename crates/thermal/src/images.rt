@@ -4,10 +4,9 @@ ghost use lib.ListN.{length};
 ghost use Rattle.graphics.specs.Formats.{rasterOf};
 ghost use Rattle.graphics.specs.Decoding.{decoded, decodedOn};
 ghost use Rattle.graphics.specs.Layers.{merged, mergedOn};
-ghost use Rattle.graphics.specs.declared.formats.Format.the-variants.{Columns};
-ghost use Rattle.thermal.specs.Packed.{colorOf, colorsOf};
-use super::packed::color_of;
-use super::packed::colors_of;
+ghost use Rattle.graphics.specs.declared.formats.Format.{Format};
+use colour::RGBA;
+use colour::RenderColors;
 use graphics::Decoded;
 
 #[no_mangle]
@@ -16,21 +15,20 @@ pub extern "C" fn thermal_image_from_raster_bytes_single_color(
     height: u32,
     stretch_x: u8,
     stretch_y: u8,
-    color: u32,
+    color: RGBA,
     data: &[u8],
     process_as_bits: bool,
     out: &mut [u8],
 ) -> Decoded
     ensures { λ r. ⌜ r ≡ decoded (rasterOf «process_as_bits») width height «stretch_x» «stretch_y» (length (now («data» .entry))) (length (now (out .entry))) ⌝ }
-    ensures { λ _. ⌜ now (out .exit) ≡ decodedOn (rasterOf «process_as_bits») (now («data» .entry)) width height «stretch_x» «stretch_y» (colorOf color) (now (out .entry)) ⌝ }
+    ensures { λ _. ⌜ now (out .exit) ≡ decodedOn (rasterOf «process_as_bits») (now («data» .entry)) width height «stretch_x» «stretch_y» color (now (out .entry)) ⌝ }
 {
-    let c = color_of(color);
     graphics::image_from_raster_bytes_single_color(
         width,
         height,
         stretch_x,
         stretch_y,
-        c,
+        color,
         data,
         process_as_bits,
         out,
@@ -43,20 +41,19 @@ pub extern "C" fn thermal_image_from_column_bytes_single_color(
     height: u32,
     stretch_x: u8,
     stretch_y: u8,
-    color: u32,
+    color: RGBA,
     data: &[u8],
     out: &mut [u8],
 ) -> Decoded
-    ensures { λ r. ⌜ r ≡ decoded Columns width height «stretch_x» «stretch_y» (length (now («data» .entry))) (length (now (out .entry))) ⌝ }
-    ensures { λ _. ⌜ now (out .exit) ≡ decodedOn Columns (now («data» .entry)) width height «stretch_x» «stretch_y» (colorOf color) (now (out .entry)) ⌝ }
+    ensures { λ r. ⌜ r ≡ decoded Format.Columns width height «stretch_x» «stretch_y» (length (now («data» .entry))) (length (now (out .entry))) ⌝ }
+    ensures { λ _. ⌜ now (out .exit) ≡ decodedOn Format.Columns (now («data» .entry)) width height «stretch_x» «stretch_y» color (now (out .entry)) ⌝ }
 {
-    let c = color_of(color);
     graphics::image_from_column_bytes_single_color(
         width,
         height,
         stretch_x,
         stretch_y,
-        c,
+        color,
         data,
         out,
     )
@@ -69,25 +66,21 @@ pub extern "C" fn thermal_image_from_raster_bytes_multi_color(
     stretch_x: u8,
     stretch_y: u8,
     num_colors: u8,
-    paper_color: u32,
-    color_1: u32,
-    color_2: u32,
-    color_3: u32,
+    render_colors: RenderColors,
     data: &[u8],
     process_as_bits: bool,
     out: &mut [u8],
 ) -> Decoded
     ensures { λ r. ⌜ r ≡ merged «process_as_bits» width height «stretch_x» «stretch_y» «num_colors» (length (now («data» .entry))) (length (now (out .entry))) ⌝ }
-    ensures { λ _. ⌜ now (out .exit) ≡ mergedOn «process_as_bits» (now («data» .entry)) width height «stretch_x» «stretch_y» «num_colors» (colorsOf «paper_color» «color_1» «color_2» «color_3») (now (out .entry)) ⌝ }
+    ensures { λ _. ⌜ now (out .exit) ≡ mergedOn «process_as_bits» (now («data» .entry)) width height «stretch_x» «stretch_y» «num_colors» «render_colors» (now (out .entry)) ⌝ }
 {
-    let colors = colors_of(paper_color, color_1, color_2, color_3);
     graphics::image_from_raster_bytes_multi_color(
         width,
         height,
         stretch_x,
         stretch_y,
         num_colors,
-        colors,
+        render_colors,
         data,
         process_as_bits,
         out,

@@ -1,5 +1,5 @@
 -- `thermal::colours::thermal_draw_dots` meets its contract. Assumes nothing.
-use mathlib.Core.Path.{_≡_, refl, _∙_}
+use mathlib.Core.Path.{_≡_, _∙_}
 use mathlib.Core.Bool.{Bool}
 use mathlib.Core.List.{List}
 use Prim.Native.Nat.{ℕ, _+_}
@@ -11,11 +11,8 @@ use Rattle.thermal.proofs.colours.thermal_draw_dots.Statement.{statemen
 use Rattle.thermal.proofs.colours.thermal_draw_dots.Tie as tie
 
 -- a run of n dots from the first
-from-first : (m : Bool) (n : ℕ) (l : List ℕ) {c d : RGBA} {e : List ℕ} → c ≡ d → e ≡ change (within 0 (0 + n)) (λ _ s. drawn m c s) l → e ≡ change (within 0 n) (λ _ s. drawn m d s) l
-from-first m n l q h = h ∙ rw (zero-add, q)
-
-color-of-requires : tie.Need-color-of-requires
-color-of-requires c κs = search needs
+from-first : (m : Bool) (c : RGBA) (n : ℕ) (l : List ℕ) {e : List ℕ} → e ≡ change (within 0 (0 + n)) (λ _ s. drawn m c s) l → e ≡ change (within 0 n) (λ _ s. drawn m c s) l
+from-first m c n l h = h ∙ rw zero-add
 
 draw-run-requires : tie.Need-draw-run-requires
 draw-run-requires c κs = search needs
@@ -24,10 +21,7 @@ same-length : tie.Need-same-length
 same-length c = search needs
 
 returns : tie.Need-returns
-returns c =
-    let d = c .before .before in
-    from-first _ _ _ (d .before .color-of .ensures) (d .draw-run .ensures)
+returns c = from-first _ _ _ _ (c .before .before .draw-run .ensures)
 
 pub thermal-draw-dots-spec : {M : Type 1} → statement M
-thermal-draw-dots-spec =
-    tie.close (tie.spec color-of-requires draw-run-requires same-length returns)
+thermal-draw-dots-spec = tie.close (tie.spec draw-run-requires same-length returns)

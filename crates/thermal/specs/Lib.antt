@@ -1,3 +1,0 @@
--- What crosses the boundary.
-pub mod Packed
-pub mod Records
