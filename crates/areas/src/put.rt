@@ -6,10 +6,11 @@ ghost use Rattle.numbers.specs.Numbers.{limit};
 ghost use Rattle.dots.specs.Dots.{change, within};
 ghost use Rattle.areas.specs.Areas.{Fits, areaOn, pixelDrawn};
 ghost use Rattle.areas.specs.Rows.{pixelsOn};
-use dots::draw_run;
+use dots::draw_dot;
 use dots::get_dot;
+use dots::set_dot;
 
-// Each dot is a run of one; the compiler takes the test of the mode out of the loops.
+// The compiler takes the test of the mode out of the loops.
 fn draw_pixels(buf: &mut [u8], at: usize, count: usize, pixels: &[u8], from: usize, multiply: bool)
     requires { ⌜ ((at + count) * 4 ≤ length (now buf)) × ((from + count) * 4 ≤ length (now pixels)) ⌝ }
     ensures { λ _. ⌜ now (buf .exit) ≡ pixelsOn multiply (now (pixels .entry)) from at count (now (buf .entry)) ⌝ }
@@ -17,7 +18,9 @@ fn draw_pixels(buf: &mut [u8], at: usize, count: usize, pixels: &[u8], from: usi
     let mut i = 0;
     while i < count {
         let p = get_dot(pixels, from + i);
-        draw_run(buf, at + i, 1, multiply, p);
+        let s = get_dot(buf, at + i);
+        let d = draw_dot(s, multiply, p);
+        set_dot(buf, at + i, d);
         i += 1;
     }
 }

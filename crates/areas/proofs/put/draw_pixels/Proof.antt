@@ -2,8 +2,14 @@
 use native.Mathlib.Omega.{arith}
 use Prim.Native.Nat.{_-_}
 use Rattle.areas.proofs.Pixels.{Pixels, pixels-start, pixels-next, pixels-end}
+use borrow.Author.Needs.{needs}
 use Rattle.areas.proofs.put.draw_pixels.Statement.{statement}
 use Rattle.areas.proofs.put.draw_pixels.Tie as tie
+use Rattle.areas.proofs.put.draw_pixels.Reads as reads
+use Rattle.areas.proofs.put.draw_pixels.Lts as lts
+use Rattle.dots.proofs.get_dot.Reads as get-dot-reads
+use Rattle.dots.proofs.set_dot.Reads as set-dot-reads
+use Rattle.dots.proofs.draw_dot.Reads as draw-dot-reads
 
 abbrev Inv-loop : tie.InvT-loop
 Inv-loop buf₀ at count pixels from multiply i₀ buf i = Pixels multiply pixels from at count buf₀ i buf
@@ -20,11 +26,20 @@ add-get-dot c = omega arith
 get-dot-requires : tie.Need-get-dot-requires Inv-loop μ-loop
 get-dot-requires c κs = omega arith
 
-add-draw-run : tie.Need-add-draw-run Inv-loop μ-loop
-add-draw-run c = omega arith
+add-get-dot-2 : tie.Need-add-get-dot-2 Inv-loop μ-loop
+add-get-dot-2 c = omega arith
 
-draw-run-requires : tie.Need-draw-run-requires Inv-loop μ-loop
-draw-run-requires c κs = omega arith
+get-dot-requires-2 : tie.Need-get-dot-requires-2 Inv-loop μ-loop
+get-dot-requires-2 c κs = omega arith
+
+draw-dot-requires : tie.Need-draw-dot-requires Inv-loop μ-loop
+draw-dot-requires c κs = search needs
+
+add-set-dot : tie.Need-add-set-dot Inv-loop μ-loop
+add-set-dot c = omega arith
+
+set-dot-requires : tie.Need-set-dot-requires Inv-loop μ-loop
+set-dot-requires c κs = omega arith
 
 add-i : tie.Need-add-i Inv-loop μ-loop
 add-i c = omega arith
@@ -34,8 +49,9 @@ loop-less c = omega arith
 
 loop-again : tie.Need-loop-again Inv-loop μ-loop
 loop-again c =
-    let g = c .before .before .before .before in
-    pixels-next _ _ _ _ _ _ (g .before .before .loop .inv) (g .before .loop-test .taken) (g .get-dot .ensures) (c .before .before .draw-run .ensures)
+    let d = c .before .before .before .before in
+    let g = d .before .before .before in
+    pixels-next _ _ _ _ _ _ (g .before .before .loop .inv) (g .before .loop-test .taken) (omega arith) (g .get-dot .ensures) (d .before .get-dot2 .ensures) (d .draw-dot .ensures) (c .before .before .set-dot .ensures)
 
 same-length : tie.Need-same-length Inv-loop μ-loop
 same-length c = omega arith
@@ -52,8 +68,11 @@ draw-pixels-spec =
     loop-holds
     add-get-dot
     get-dot-requires
-    add-draw-run
-    draw-run-requires
+    add-get-dot-2
+    get-dot-requires-2
+    draw-dot-requires
+    add-set-dot
+    set-dot-requires
     add-i
     loop-less
     loop-again
