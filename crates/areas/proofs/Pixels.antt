@@ -12,12 +12,12 @@ use Rattle.colour.specs.Choice.{if_then_else_}
 use Rattle.colour.specs.declared.RGBA.{RGBA}
 use Rattle.dots.specs.Dots.{dotAt, setDot, change, within, drawn}
 use Rattle.dots.proofs.Laws.{
-  length-setDot,
+  length-change,
   change-idle,
   change-same,
   run-none,
+  run-more,
   run-turn,
-  run-old,
   Place,
   before,
   inside,
@@ -29,6 +29,10 @@ use Rattle.dots.proofs.Laws.{
 }
 use Rattle.areas.specs.Areas.{pixelDrawn}
 use Rattle.areas.specs.Rows.{pixelsOn}
+
+-- a dot that is written is a run of one
+pub dot-run : (k : ℕ) (g : RGBA → RGBA) (b : List ℕ) {m : List ℕ} {s d : RGBA} → k * 4 + 4 ≤ length b → s ≡ dotAt b k → d ≡ g s → m ≡ setDot b k d → m ≡ change (within k (k + 1)) (λ _ s. g s) b
+dot-run k g b h es ed em = run-turn k k (λ _ s. g s) b (omega arith) h (run-none k _ b) (ed ∙ ap g es) em
 
 module _ (multiply : Bool) (pixels : List ℕ) (from at count : ℕ) (l : List ℕ) where
   abbrev pixelDot : ℕ → RGBA → RGBA
@@ -42,15 +46,14 @@ module _ (multiply : Bool) (pixels : List ℕ) (from at count : ℕ) (l : List �
   pub pixels-start : Pixels 0 l
   pixels-start = record { upto = omega arith; same = refl; sofar = rw add-zero (run-none at pixelDot l) }
 
-  pub pixels-next : {i : ℕ} {b m : List ℕ} {p s d : RGBA} → Pixels i b → i < count → (at + i) * 4 + 4 ≤ length l → p ≡ dotAt pixels (from + i) → s ≡ dotAt b (at + i)
-      → d ≡ drawn multiply p s → m ≡ setDot b (at + i) d → Pixels (i + 1) m
-  pixels-next {i} {b} {m} {p} {s} {d} r t h ep es ed em =
+  pub pixels-next : {i : ℕ} {b m : List ℕ} {p : RGBA} → Pixels i b → i < count → p ≡ dotAt pixels (from + i)
+      → m ≡ change (within (at + i) (at + i + 1)) (λ _ d. drawn multiply p d) b → Pixels (i + 1) m
+  pixels-next {i} {b} r t ep em =
       let e : at + i + 1 ≡ at + (i + 1) = omega arith in
-      let n : at + i - at ≡ i = omega arith in
       record {
         upto = omega arith;
-        same = ap length em ∙ length-setDot b (at + i) d ∙ r .same;
-        sofar = rw e at (run-turn at (at + i) pixelDot l (omega arith) h (r .sofar) (ed ∙ rw (ep, run-old at (at + i) pixelDot l (r .sofar) es, n)) em);
+        same = ap length em ∙ length-change _ _ b ∙ r .same;
+        sofar = rw e at (run-more at (at + i) (at + i + 1) _ pixelDot l (omega arith) (omega arith) (λ k u v d. let n : k - at ≡ i = omega arith in rw (n, ep)) (r .sofar) em);
       }
 
   pub pixels-end : {i : ℕ} {b : List ℕ} → Pixels i b → count ≤ i → b ≡ pixelsOn multiply pixels from at count l

@@ -3,7 +3,7 @@ use mathlib.Core.Path.{_≡_, refl, ap, _∙_}
 use mathlib.Core.Bool.{false}
 use mathlib.Core.List.{List}
 use Prim.Native.Nat.{ℕ, _+_, _-_, _*_, _/_, _≤_, _<_, min}
-use native.Mathlib.Nat.{div-eq-of-lt-le, add-zero, zero-mul, one-mul, add-mul, mul-le-mul-left, mul-one}
+use native.Mathlib.Nat.{div-eq-of-lt-le, add-zero, zero-mul, one-mul, add-mul, mul-le-mul-left}
 use native.Mathlib.Omega.{arith}
 use lib.ListN.{length}
 use Rattle.colour.specs.Colour.{withAlpha}

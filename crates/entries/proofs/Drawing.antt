@@ -98,7 +98,10 @@ module _ (s : List ℕ) (e : Entry) (W top from rows : ℕ) (l : List ℕ) {firs
           rw (rows-high (e .y) (e .h) top from rows ef el r v, within-high top (top + rows) r v, and-false, and-false)
       one k r (inside u v) =
           rw (
-          sub-zero, rows-same (e .y) (e .h) top from rows ef el r u v, within-yes 0 (0 + W) (k % W) (omega arith) (omega (arith, mod-lt k w)), within-yes top (top + rows) r u v
+            sub-zero,
+            rows-same (e .y) (e .h) top from rows ef el r u v,
+            within-yes 0 (0 + W) (k % W) (omega arith) (omega (arith, mod-lt k w)),
+            within-yes top (top + rows) r u v,
           )
           (here k r u v (within (e .y) (e .y + e .h) (from + (r - top))) refl)
 

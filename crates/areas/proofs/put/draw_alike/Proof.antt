@@ -1,12 +1,13 @@
--- `areas::put::draw_pixels` meets its contract. Assumes nothing.
+-- `areas::put::draw_alike` meets its contract. Assumes nothing.
 use native.Mathlib.Omega.{arith}
 use Prim.Native.Nat.{_-_}
-use Rattle.areas.proofs.Pixels.{Pixels, pixels-start, pixels-next, pixels-end}
+use Rattle.dots.specs.Dots.{drawn}
+use Rattle.areas.proofs.Pixels.{dot-run, Pixels, pixels-start, pixels-next, pixels-end}
 use borrow.Author.Needs.{needs}
-use Rattle.areas.proofs.put.draw_pixels.Statement.{statement}
-use Rattle.areas.proofs.put.draw_pixels.Tie as tie
-use Rattle.areas.proofs.put.draw_pixels.Reads as reads
-use Rattle.areas.proofs.put.draw_pixels.Lts as lts
+use Rattle.areas.proofs.put.draw_alike.Statement.{statement}
+use Rattle.areas.proofs.put.draw_alike.Tie as tie
+use Rattle.areas.proofs.put.draw_alike.Reads as reads
+use Rattle.areas.proofs.put.draw_alike.Lts as lts
 use Rattle.dots.proofs.get_dot.Reads as get-dot-reads
 use Rattle.dots.proofs.set_dot.Reads as set-dot-reads
 use Rattle.dots.proofs.draw_dot.Reads as draw-dot-reads
@@ -51,7 +52,9 @@ loop-again : tie.Need-loop-again Inv-loop μ-loop
 loop-again c =
     let d = c .before .before .before .before in
     let g = d .before .before .before in
-    pixels-next _ _ _ _ _ _ (g .before .before .loop .inv) (g .before .loop-test .taken) (omega arith) (g .get-dot .ensures) (d .before .get-dot2 .ensures) (d .draw-dot .ensures) (c .before .before .set-dot .ensures)
+    let a = g .before .before .before .before .before .args in
+    pixels-next _ _ _ _ _ _ (g .before .before .loop .inv) (g .before .loop-test .taken) (g .get-dot .ensures)
+    (dot-run _ (drawn (a .multiply) (g .get-dot .result)) (g .before .before .loop .buf) (omega arith) (d .before .get-dot2 .ensures) (d .draw-dot .ensures) (c .before .before .set-dot .ensures))
 
 same-length : tie.Need-same-length Inv-loop μ-loop
 same-length c = omega arith
@@ -59,8 +62,8 @@ same-length c = omega arith
 returns : tie.Need-returns Inv-loop μ-loop
 returns c = pixels-end _ _ _ _ _ _ (c .before .loop .inv) (c .loop-test .left)
 
-pub draw-pixels-spec : {M : Type 1} → statement M
-draw-pixels-spec =
+pub draw-alike-spec : {M : Type 1} → statement M
+draw-alike-spec =
     tie.close
     (tie.spec
     Inv-loop
