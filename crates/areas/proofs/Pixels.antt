@@ -10,13 +10,14 @@ use borrow.Author.Tests.{lt-ltb, le-ltb}
 use Rattle.numbers.specs.Numbers.{limit}
 use Rattle.colour.specs.Choice.{if_then_else_}
 use Rattle.colour.specs.declared.RGBA.{RGBA}
-use Rattle.dots.specs.Dots.{dotAt, change, within, drawn}
+use Rattle.dots.specs.Dots.{dotAt, setDot, change, within, drawn}
 use Rattle.dots.proofs.Laws.{
   length-change,
   change-idle,
   change-same,
   run-none,
   run-more,
+  run-turn,
   Place,
   before,
   inside,
@@ -28,6 +29,10 @@ use Rattle.dots.proofs.Laws.{
 }
 use Rattle.areas.specs.Areas.{pixelDrawn}
 use Rattle.areas.specs.Rows.{pixelsOn}
+
+-- a dot that is written is a run of one
+pub dot-run : (k : ℕ) (g : RGBA → RGBA) (b : List ℕ) {m : List ℕ} {s d : RGBA} → k * 4 + 4 ≤ length b → s ≡ dotAt b k → d ≡ g s → m ≡ setDot b k d → m ≡ change (within k (k + 1)) (λ _ s. g s) b
+dot-run k g b h es ed em = run-turn k k (λ _ s. g s) b (omega arith) h (run-none k _ b) (ed ∙ ap g es) em
 
 module _ (multiply : Bool) (pixels : List ℕ) (from at count : ℕ) (l : List ℕ) where
   abbrev pixelDot : ℕ → RGBA → RGBA

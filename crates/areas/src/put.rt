@@ -6,11 +6,13 @@ ghost use Rattle.numbers.specs.Numbers.{limit};
 ghost use Rattle.dots.specs.Dots.{change, within};
 ghost use Rattle.areas.specs.Areas.{Fits, areaOn, pixelDrawn};
 ghost use Rattle.areas.specs.Rows.{pixelsOn};
+use dots::draw_dot;
 use dots::draw_run;
 use dots::get_dot;
+use dots::set_dot;
 
-// Each dot is a run of one; the compiler takes the test of the mode out of the loops.
-fn draw_pixels(buf: &mut [u8], at: usize, count: usize, pixels: &[u8], from: usize, multiply: bool)
+// Each dot is a run of one, which is soon done where there is nothing to mix.
+fn draw_each(buf: &mut [u8], at: usize, count: usize, pixels: &[u8], from: usize, multiply: bool)
     requires { ⌜ ((at + count) * 4 ≤ length (now buf)) × ((from + count) * 4 ≤ length (now pixels)) ⌝ }
     ensures { λ _. ⌜ now (buf .exit) ≡ pixelsOn multiply (now (pixels .entry)) from at count (now (buf .entry)) ⌝ }
 {
@@ -18,6 +20,21 @@ fn draw_pixels(buf: &mut [u8], at: usize, count: usize, pixels: &[u8], from: usi
     while i < count {
         let p = get_dot(pixels, from + i);
         draw_run(buf, at + i, 1, multiply, p);
+        i += 1;
+    }
+}
+
+// Every dot the same way, so that the compiler makes vectors of the loop.
+fn draw_alike(buf: &mut [u8], at: usize, count: usize, pixels: &[u8], from: usize, multiply: bool)
+    requires { ⌜ ((at + count) * 4 ≤ length (now buf)) × ((from + count) * 4 ≤ length (now pixels)) ⌝ }
+    ensures { λ _. ⌜ now (buf .exit) ≡ pixelsOn multiply (now (pixels .entry)) from at count (now (buf .entry)) ⌝ }
+{
+    let mut i = 0;
+    while i < count {
+        let p = get_dot(pixels, from + i);
+        let s = get_dot(buf, at + i);
+        let d = draw_dot(s, multiply, p);
+        set_dot(buf, at + i, d);
         i += 1;
     }
 }
@@ -31,7 +48,8 @@ fn smaller(a: usize, b: usize) -> usize
     b
 }
 
-// A row for which there may be fewer pixels than dots, or none.
+// A row for which there may be fewer pixels than dots, or none. Its first pixel tells which way is
+// likely to be the sooner done, and either does the same.
 fn put_row(
     buf: &mut [u8],
     at: usize,
@@ -48,7 +66,11 @@ fn put_row(
         return;
     }
     let count = smaller(w, n - from);
-    draw_pixels(buf, at, count, pixels, from, multiply);
+    let first = get_dot(pixels, from);
+    match first.a {
+        1..=254 => draw_alike(buf, at, count, pixels, from, multiply),
+        _ => draw_each(buf, at, count, pixels, from, multiply),
+    }
 }
 
 pub fn put_area(

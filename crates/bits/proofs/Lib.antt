@@ -2,4 +2,5 @@ mod Joining
 pub mod Rows
 mod Unpacking
 mod Stamping
+mod Stretching
 mod Unique

@@ -18,7 +18,7 @@ pub(crate) fn least(a: usize, b: usize) -> usize
 }
 
 // Bit x, or 0 where no dot shows it.
-fn some_bit(data: &[u8], from: usize, x: usize, shown: bool) -> u8
+pub(crate) fn some_bit(data: &[u8], from: usize, x: usize, shown: bool) -> u8
     requires { ⌜ (shown ≡ true → from + x / 8 < length (now «data»)) ⌝ }
     ensures { λ r. ⌜ r ≡ (if shown then bitAt (now («data» .entry)) from x else 0) ⌝ }
 {

@@ -1,5 +1,6 @@
 // A row of bits put on dots, or blended onto them.
 ghost use mathlib.Core.Path.{_≡_};
+ghost use mathlib.Core.Bool.{true, false};
 ghost use Prim.Native.Nat.{_+_, _-_, _*_, _^_, _≤_, _<_, min};
 ghost use lib.ListN.{length};
 ghost use Rattle.numbers.specs.Numbers.{limit};
@@ -9,7 +10,9 @@ ghost use Rattle.dots.specs.Dots.{tab};
 ghost use Rattle.bits.specs.Bits.{landed, Shown, bitsOn, pixelLanded, byteOn};
 use super::gather::dot_bits;
 use super::gather::least;
+use super::gather::some_bit;
 use colour::RGBA;
+use dots::fill_run;
 use dots::get_dot;
 use dots::set_dot;
 
@@ -50,7 +53,8 @@ fn unpack_some(
     }
 }
 
-pub fn unpack_row(
+// Eight dots at a time.
+fn unpack_bytes(
     out: &mut [u8],
     at: usize,
     count: usize,
@@ -71,4 +75,58 @@ pub fn unpack_row(
         unpack_some(out, at + i, byte, n, &masks, color, blend);
         i += n;
     }
+}
+
+// A stretched row that is put: bit by bit, so that the dots of a bit are told by one look at it. The
+// bit is a factor of the alpha, and not a test.
+fn stretch_row(
+    out: &mut [u8],
+    at: usize,
+    count: usize,
+    data: &[u8],
+    from: usize,
+    fx: usize,
+    color: RGBA,
+)
+    requires { ⌜ ((at + count) * 4 ≤ length (now out)) × (0 < fx) × (count ≤ limit) × Shown from fx count (length (now «data»)) ⌝ }
+    ensures { λ _. ⌜ now (out .exit) ≡ bitsOn (pixelLanded false color) (now («data» .entry)) from fx at count (now (out .entry)) ⌝ }
+{
+    let mut x = 0;
+    let mut i = 0;
+    while i < count {
+        let n = least(fx, count - i);
+        let bit = some_bit(data, from, x, true);
+        fill_run(out, at + i, n, color.with_alpha(bit * 255));
+        i += n;
+        x += 1;
+    }
+}
+
+fn by_bits(fx: usize, blend: bool) -> bool
+    ensures { λ r. ⌜ (r ≡ true → blend ≡ false) ⌝ }
+{
+    if blend {
+        return false;
+    }
+    fx != 1
+}
+
+pub fn unpack_row(
+    out: &mut [u8],
+    at: usize,
+    count: usize,
+    data: &[u8],
+    from: usize,
+    fx: usize,
+    color: RGBA,
+    blend: bool,
+)
+    requires { ⌜ ((at + count) * 4 ≤ length (now out)) × (0 < fx) × (count ≤ limit) × Shown from fx count (length (now «data»)) ⌝ }
+    ensures { λ _. ⌜ now (out .exit) ≡ bitsOn (pixelLanded blend color) (now («data» .entry)) from fx at count (now (out .entry)) ⌝ }
+{
+    if by_bits(fx, blend) {
+        stretch_row(out, at, count, data, from, fx, color);
+        return;
+    }
+    unpack_bytes(out, at, count, data, from, fx, color, blend);
 }

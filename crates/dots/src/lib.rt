@@ -10,6 +10,7 @@ pub use dot::get_dot;
 pub use dot::set_dot;
 pub use draw::TABLE_DOTS;
 pub use draw::covers;
+pub use draw::draw_dot;
 pub use draw::draw_run;
 pub use draw::needs_floats;
 pub use fill::fill_run;

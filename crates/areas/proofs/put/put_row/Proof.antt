@@ -1,10 +1,21 @@
 -- `areas::put::put_row` meets its contract. Assumes nothing.
 use native.Mathlib.Omega.{arith}
-use borrow.Author.Needs.{needs}
-use mathlib.Core.Path.{_∙_}
+use mathlib.Core.Path.{_≡_, _∙_}
+use mathlib.Core.List.{List}
+use Prim.Native.Nat.{ℕ, _+_, _-_}
+use Rattle.dots.specs.Dots.{change, within}
+use Rattle.areas.specs.Areas.{pixelDrawn}
+use Rattle.areas.specs.Rows.{pixelsOn}
 use Rattle.areas.proofs.Pixels.{row-missing, row-given}
+use borrow.Author.Needs.{needs}
 use Rattle.areas.proofs.put.put_row.Statement.{statement}
 use Rattle.areas.proofs.put.put_row.Tie as tie
+use Rattle.areas.proofs.put.put_row.Reads as reads
+use Rattle.areas.proofs.put.put_row.Lts as lts
+use Rattle.areas.proofs.put.draw_alike.Reads as draw-alike-reads
+use Rattle.areas.proofs.put.draw_each.Reads as draw-each-reads
+use Rattle.areas.proofs.put.smaller.Reads as smaller-reads
+use Rattle.dots.proofs.get_dot.Reads as get-dot-reads
 
 returns : tie.Need-returns
 returns c =
@@ -17,19 +28,45 @@ sub-smaller c = omega arith
 smaller-requires : tie.Need-smaller-requires
 smaller-requires c κs = search needs
 
-draw-pixels-requires : tie.Need-draw-pixels-requires
-draw-pixels-requires c κs = omega arith
+get-dot-requires : tie.Need-get-dot-requires
+get-dot-requires c κs = omega arith
+
+draw-alike-requires : tie.Need-draw-alike-requires
+draw-alike-requires c κs = omega arith
+
+draw-each-requires : tie.Need-draw-each-requires
+draw-each-requires c κs = omega arith
 
 same-length : tie.Need-same-length
 same-length c = omega arith
 
+given : (c : tie.After-smaller) {m : List ℕ} → let a = c .before .before .before .before .args in
+    m ≡ pixelsOn (a .multiply) (a .pixels .now) (a .from) (a .at) (c .smaller .result) (a .buf .now)
+    → m ≡ change (within (a .at) (a .at + a .w)) (λ k d. pixelDrawn (a .multiply) (a .pixels .now) (a .n) (a .from + (k - a .at)) d) (a .buf .now)
+given c e =
+    let a = c .before .before .before .before .args in
+    e ∙ row-given (a .multiply) (a .pixels .now) (a .n) (a .from) (a .at) (a .w) (a .buf .now) (c .smaller .ensures)
+
 returns-2 : tie.Need-returns-2
-returns-2 c =
-    let s = c .before .before .before .before in
-    let a = s .before .before .before .before .args in
-    c .before .before .draw-pixels .ensures ∙ row-given (a .multiply) (a .pixels .now) (a .n) (a .from) (a .at) (a .w) (a .buf .now) (s .smaller .ensures)
+returns-2 c = given (c .before .before .before .before .before .before .before .before .before) (c .before .before .draw-alike .ensures)
+
+same-length-2 : tie.Need-same-length-2
+same-length-2 c = omega arith
+
+returns-3 : tie.Need-returns-3
+returns-3 c = given (c .before .before .before .before .before .before .before) (c .before .before .draw-each .ensures)
 
 pub put-row-spec : {M : Type 1} → statement M
 put-row-spec =
     tie.close
-    (tie.spec returns sub-smaller smaller-requires draw-pixels-requires same-length returns-2)
+    (tie.spec
+    returns
+    sub-smaller
+    smaller-requires
+    get-dot-requires
+    draw-alike-requires
+    draw-each-requires
+    same-length
+    returns-2
+    same-length-2
+    returns-3)

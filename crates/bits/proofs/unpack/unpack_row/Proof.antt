@@ -1,77 +1,42 @@
 -- `bits::unpack::unpack_row` meets its contract. Assumes nothing.
-use mathlib.Core.Path.{refl}
-use Prim.Native.Nat.{_-_}
-use native.Mathlib.Omega.{arith}
-use Rattle.dots.specs.Dots.{tab}
-use Rattle.bits.specs.Bits.{pixelLanded}
-use Rattle.bits.proofs.Rows.{Bits, bits-start, bits-next, bits-shown, bits-end}
 use borrow.Author.Needs.{needs}
 use Rattle.bits.proofs.unpack.unpack_row.Statement.{statement}
 use Rattle.bits.proofs.unpack.unpack_row.Tie as tie
 use Rattle.bits.proofs.unpack.unpack_row.Reads as reads
 use Rattle.bits.proofs.unpack.unpack_row.Lts as lts
-use Rattle.bits.proofs.gather.dot_bits.Reads as dot-bits-reads
-use Rattle.bits.proofs.gather.least.Reads as least-reads
-use Rattle.bits.proofs.unpack.unpack_some.Reads as unpack-some-reads
+use Rattle.bits.proofs.unpack.by_bits.Reads as by-bits-reads
+use Rattle.bits.proofs.unpack.stretch_row.Reads as stretch-row-reads
+use Rattle.bits.proofs.unpack.unpack_bytes.Reads as unpack-bytes-reads
 
-abbrev Inv-loop : tie.InvT-loop
-Inv-loop out₀ at count «data» from fx color blend masks i₀ out i = Bits (pixelLanded blend color) «data» from fx at count out₀ i out
+by-bits-requires : tie.Need-by-bits-requires
+by-bits-requires c κs = search needs
 
-abbrev μ-loop : tie.MeasureT-loop
-μ-loop out₀ at count «data» from fx color blend masks i₀ out i = count - i
+stretch-row-requires : tie.Need-stretch-row-requires
+stretch-row-requires c κs = search needs
 
-loop-holds : tie.Need-loop-holds Inv-loop μ-loop
-loop-holds c = bits-start _ _ _ _ _ _ _
+same-length : tie.Need-same-length
+same-length c = search needs
 
-sub-least : tie.Need-sub-least Inv-loop μ-loop
-sub-least c = search needs
+returns : tie.Need-returns
+returns c = let t = c .before .before .before .before in rw (t .before .by-bits .ensures (t .if1 .taken)) (c .before .before .stretch-row .ensures)
 
-least-requires : tie.Need-least-requires Inv-loop μ-loop
-least-requires c κs = search needs
+unpack-bytes-requires : tie.Need-unpack-bytes-requires
+unpack-bytes-requires c κs = search needs
 
-dot-bits-requires : tie.Need-dot-bits-requires Inv-loop μ-loop
-dot-bits-requires c κs = let l = c .before .before in let p = l .before .before .before .pre in (p .1, omega arith, omega arith, bits-shown _ _ _ (p .3) (c .before .loop-test .taken) (c .least .ensures))
+same-length-2 : tie.Need-same-length-2
+same-length-2 c = search needs
 
-add-unpack-some : tie.Need-add-unpack-some Inv-loop μ-loop
-add-unpack-some c = search needs
-
-unpack-some-requires : tie.Need-unpack-some-requires Inv-loop μ-loop
-unfolding tab
-unpack-some-requires c κs = (omega arith, omega arith, refl)
-
-add-i : tie.Need-add-i Inv-loop μ-loop
-add-i c = search needs
-
-loop-less : tie.Need-loop-less Inv-loop μ-loop
-loop-less c = search needs
-
-loop-again : tie.Need-loop-again Inv-loop μ-loop
-loop-again c =
-    let u = c .before .before in
-    let d = u .before .before .before in
-    let l = d .before .before .before in
-    bits-next _ _ _ _ _ _ _ (l .loop .inv) (d .before .before .loop-test .taken) (d .before .least .ensures) (d .dot-bits .ensures) (u .unpack-some .ensures)
-
-same-length : tie.Need-same-length Inv-loop μ-loop
-same-length c = omega arith
-
-returns : tie.Need-returns Inv-loop μ-loop
-returns c = bits-end _ _ _ _ _ _ _ (c .before .loop .inv) (c .loop-test .left)
+returns-2 : tie.Need-returns-2
+returns-2 c = search needs
 
 pub unpack-row-spec : {M : Type 1} → statement M
 unpack-row-spec =
     tie.close
     (tie.spec
-    Inv-loop
-    μ-loop
-    loop-holds
-    sub-least
-    least-requires
-    dot-bits-requires
-    add-unpack-some
-    unpack-some-requires
-    add-i
-    loop-less
-    loop-again
+    by-bits-requires
+    stretch-row-requires
     same-length
-    returns)
+    returns
+    unpack-bytes-requires
+    same-length-2
+    returns-2)

@@ -1,9 +1,9 @@
--- `areas::put::draw_pixels` meets its contract. Assumes nothing.
+-- `areas::put::draw_each` meets its contract. Assumes nothing.
 use native.Mathlib.Omega.{arith}
 use Prim.Native.Nat.{_-_}
 use Rattle.areas.proofs.Pixels.{Pixels, pixels-start, pixels-next, pixels-end}
-use Rattle.areas.proofs.put.draw_pixels.Statement.{statement}
-use Rattle.areas.proofs.put.draw_pixels.Tie as tie
+use Rattle.areas.proofs.put.draw_each.Statement.{statement}
+use Rattle.areas.proofs.put.draw_each.Tie as tie
 
 abbrev Inv-loop : tie.InvT-loop
 Inv-loop buf₀ at count pixels from multiply i₀ buf i = Pixels multiply pixels from at count buf₀ i buf
@@ -43,8 +43,8 @@ same-length c = omega arith
 returns : tie.Need-returns Inv-loop μ-loop
 returns c = pixels-end _ _ _ _ _ _ (c .before .loop .inv) (c .loop-test .left)
 
-pub draw-pixels-spec : {M : Type 1} → statement M
-draw-pixels-spec =
+pub draw-each-spec : {M : Type 1} → statement M
+draw-each-spec =
     tie.close
     (tie.spec
     Inv-loop
