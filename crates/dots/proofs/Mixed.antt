@@ -1,7 +1,7 @@
 -- Bytes mixed by factors and terms are bytes of dots with a colour drawn on them. Assumes nothing.
 use mathlib.Core.Path.{_≡_, refl, sym, ap, _∙_}
 use mathlib.Core.Bool.{Bool, true, false}
-use mathlib.Core.Logic.{_⊎_, inl, inr}
+use mathlib.Core.Logic.{inr}
 use mathlib.Core.List.{List, [], _∷_}
 use Prim.Native.Nat.{ℕ, _+_, _-_, _*_, _/_, _%_, _≤_, _<_}
 use native.Mathlib.Omega.{arith}
@@ -13,7 +13,7 @@ use Rattle.colour.specs.declared.RGBA.{RGBA}
 use Rattle.colour.specs.Choice.{if_then_else_}
 use Rattle.colour.specs.Channel.{blendByte, multiplyByte}
 use Rattle.colour.specs.Colour.{rgba, blended, multiplied}
-use Rattle.colour.proofs.Laws.{rgba-eq, by-256, blend-byte-full, blended-full, blended-some, multiplied-none, multiplied-some, multiply-byte-full}
+use Rattle.colour.proofs.Laws.{rgba-eq, by-256, blend-byte-full, blended-full, blended-some, multiplied-some, multiply-byte-full}
 use Rattle.dots.specs.Dots.{dotAt, chan, change, within, drawn}
 use Rattle.dots.specs.Tables.{lanes, factors, terms, Whole}
 use Rattle.dots.proofs.Laws.{getD-tab, each-byte, byte-of}
@@ -102,20 +102,6 @@ mixed-whole c s p q f er eg eb =
 
 mixed-kept : (s : ℕ) → s ≤ 255 → mixed 255 128 s ≡ s
 mixed-kept s h = omega arith
-
--- a dot multiplied at no alpha or at full
-pub mixed-ends : (c s : RGBA) → Bytes c → Bytes s → (c .a ≡ 0) ⊎ (c .a ≡ 255) → {x y z r g b : ℕ}
-    → x ≡ (if eqb (c .a) 0 then 255 else c .r) → y ≡ (if eqb (c .a) 0 then 255 else c .g) → z ≡ (if eqb (c .a) 0 then 255 else c .b)
-    → r ≡ mixed x 128 (s .r) → g ≡ mixed y 128 (s .g) → b ≡ mixed z 128 (s .b) → rgba r g b (s .a) ≡ multiplied c s
-mixed-ends c s p q (inl e) {x} {y} {z} ex ey ez er eg eb =
-    rgba-eq (kept (c .r) ex er (q .r)) (kept (c .g) ey eg (q .g)) (kept (c .b) ez eb (q .b)) refl ∙ multiplied-none c s e
-  where
-    kept : (k : ℕ) {m v w : ℕ} → m ≡ (if eqb (c .a) 0 then 255 else k) → v ≡ mixed m 128 w → w ≤ 255 → v ≡ w
-    kept k em ev h = ev ∙ rw (em, eq-eqb (c .a) 0 e) (mixed-kept _ h)
-mixed-ends c s p q (inr f) ex ey ez er eg eb = mixed-whole c s p q f (full (c .r) (s .r) ex er) (full (c .g) (s .g) ey eg) (full (c .b) (s .b) ez eb)
-  where
-    full : (k w : ℕ) {m v : ℕ} → m ≡ (if eqb (c .a) 0 then 255 else k) → v ≡ mixed m 128 w → v ≡ mixed k 128 w
-    full k w em ev = ev ∙ rw (em, ne-eqb (c .a) 0 (λ e. omega arith))
 
 -- the dot that the loop makes of s
 abbrev mixedDot : Bool → RGBA → RGBA → RGBA

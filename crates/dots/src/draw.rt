@@ -1,11 +1,8 @@
 // A run of dots under a colour, blending or multiplying.
 ghost use mathlib.Core.Path.{_≡_};
 ghost use mathlib.Core.Bool.{true};
-ghost use mathlib.Core.Logic.{_⊎_};
 ghost use Prim.Native.Nat.{_+_, _*_, _≤_, _<_};
 ghost use lib.ListN.{length};
-ghost use lib.Dec.{eqb};
-ghost use Rattle.colour.specs.Choice.{if_then_else_};
 ghost use Rattle.colour.specs.Colour.{multiplied};
 ghost use Rattle.dots.specs.Dots.{change, within, drawn};
 ghost use Rattle.dots.specs.Tables.{needsFloats, covers};
@@ -20,26 +17,15 @@ use super::multiply::multiply_run;
 use super::multiply::multiply_table;
 use colour::RGBA;
 
-// At alpha 0 the factor is 255, which leaves what was there.
-fn factor(c: u8, a: u8) -> u8
-    ensures { λ r. ⌜ r ≡ (if eqb a 0 then 255 else c) ⌝ }
-{
-    if a == RGBA::TRANSPARENT {
-        return 255;
-    }
-    c
-}
-
-// Multiplying at no alpha or at full, by whole numbers. The dots of a bit image go either way at
-// random, so the choice is one of factors, and no branch.
+// Multiplying at full alpha, by whole numbers.
 fn multiply_whole(s: RGBA, c: RGBA) -> RGBA
-    requires { ⌜ (c .a ≡ 0) ⊎ (c .a ≡ 255) ⌝ }
+    requires { ⌜ c .a ≡ 255 ⌝ }
     ensures { λ r. ⌜ r ≡ multiplied c s ⌝ }
 {
     RGBA {
-        r: mix_byte(s.r, factor(c.r, c.a) as u16, 128),
-        g: mix_byte(s.g, factor(c.g, c.a) as u16, 128),
-        b: mix_byte(s.b, factor(c.b, c.a) as u16, 128),
+        r: mix_byte(s.r, c.r as u16, 128),
+        g: mix_byte(s.g, c.g as u16, 128),
+        b: mix_byte(s.b, c.b as u16, 128),
         a: s.a,
     }
 }
@@ -47,10 +33,10 @@ fn multiply_whole(s: RGBA, c: RGBA) -> RGBA
 fn multiply_dot(s: RGBA, c: RGBA) -> RGBA
     ensures { λ r. ⌜ r ≡ multiplied c s ⌝ }
 {
-    match c.a {
-        1..=254 => s.multiply_foreground(c),
-        _ => multiply_whole(s, c),
+    if c.a == RGBA::OPAQUE {
+        return multiply_whole(s, c);
     }
+    s.multiply_foreground(c)
 }
 
 pub fn draw_dot(s: RGBA, multiply: bool, c: RGBA) -> RGBA
