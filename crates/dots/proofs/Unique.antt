@@ -4,6 +4,7 @@ use Rattle.colour.proofs.OneAnswer.{OneAnswer, OneContent, both}
 use Rattle.dots.proofs.dot.get_dot.Reads as get-dot
 use Rattle.dots.proofs.dot.set_dot.Reads as set-dot
 use Rattle.dots.proofs.fill.fill_run.Reads as fill-run
+use Rattle.dots.proofs.draw.draw_dot.Reads as draw-dot
 use Rattle.dots.proofs.draw.draw_run.Reads as draw-run
 use Rattle.dots.proofs.draw.needs_floats.Reads as needs-floats
 use Rattle.dots.proofs.draw.covers.Reads as covers
@@ -22,6 +23,9 @@ set-dot-one k a x y e f p q = both p q
 
 fill-run-one : OneContent fill-run.Post (λ k e. now (e .0))
 fill-run-one k a x y e f p q = both p q
+
+draw-dot-one : OneAnswer draw-dot.Post
+draw-dot-one k a x y e f p q = both p q
 
 draw-run-one : OneContent draw-run.Post (λ k e. now (e .0))
 draw-run-one k a x y e f p q = both p q
