@@ -1,0 +1,4 @@
+mod Rules
+mod Lines
+mod Answers
+mod Unique

@@ -1,0 +1,100 @@
+-- The plan rules as the code tests them, entry by entry. Assumes nothing.
+use Prim.Native.Nat.{ℕ, zero, suc, _+_, _*_, _≤_, _<_}
+use mathlib.Core.Path.{_≡_, refl, ap, sym, _∙_}
+use mathlib.Core.Logic.{⊎-elim}
+use mathlib.Core.List.{List, [], _∷_, _++_}
+use mathlib.Core.Bool.{Bool, true, false, not, _&&_, and-true, true≢false}
+use native.Mathlib.Nat.{le-of-suc-le-suc, not-suc-le-zero}
+use native.Mathlib.Numerals.{add-one}
+use native.Mathlib.Omega.{arith}
+use borrow.Author.Tests.{leb-true, leb-false, ltb-false, le-leb, lt-leb, lt-ltb, le-ltb}
+use lib.Dec.{ltb, leb}
+use lib.ListN.{getD}
+use Rattle.numbers.specs.Numbers.{limit, done, noRoom, badPlan, noRow}
+use Rattle.colour.specs.Choice.{if_then_else_}
+use Rattle.dots.proofs.Laws.{below}
+use Rattle.entries.specs.declared.Entry.{Entry}
+use Rattle.entries.specs.Entries.{goodKind, goodEntry}
+use Rattle.job.specs.Commands.{soundMode}
+use Rattle.plan.specs.Plan.{noEntry}
+use Rattle.rows.specs.Rows.{goodEntries, goodPlan, rowRefusal, firsts}
+
+both : (a b : Bool) → (a && b) ≡ true → (a ≡ true) × (b ≡ true)
+both true b e = (refl, e)
+both false b e = absurd (true≢false (sym e))
+
+module _ (W H n : ℕ) where
+  good-more : (es : List Entry) (e : Entry) → goodEntries W H n (es ++ (e ∷ [])) ≡ (goodEntries W H n es && goodEntry W H n e)
+  unfolding goodEntries
+  good-more [] e = and-true _
+  good-more (f ∷ es) e = rw (good-more es e) (split (goodEntry W H n f))
+    where
+      split : (t : Bool) → (t && (goodEntries W H n es && goodEntry W H n e)) ≡ ((t && goodEntries W H n es) && goodEntry W H n e)
+      split true = refl
+      split false = refl
+
+  -- the first i entries are good, and so is the next
+  pub good-next : (es : List Entry) (i : ℕ) → goodEntries W H n (firsts i es) ≡ true → goodEntry W H n (getD es i noEntry) ≡ true → goodEntries W H n (firsts (i + 1) es) ≡ true
+  unfolding firsts
+  good-next es i a b = let u : i + 1 ≡ suc i = omega arith in rw (u, good-more (firsts i es) (getD es i noEntry), a, b)
+
+  pub good-start : (es : List Entry) → goodEntries W H n (firsts 0 es) ≡ true
+  unfolding firsts goodEntries
+  good-start es = refl
+
+  -- of good entries each is good
+  pub good-at : (es : List Entry) (count i : ℕ) → i < count → goodEntries W H n (firsts count es) ≡ true → goodEntry W H n (getD es i noEntry) ≡ true
+  unfolding firsts
+  good-at es zero i h e = absurd (not-suc-le-zero h)
+  good-at es (suc count) i h e =
+      let b = both (goodEntries W H n (firsts count es)) (goodEntry W H n (getD es count noEntry)) (sym (good-more (firsts count es) (getD es count noEntry)) ∙ e) in
+      ⊎-elim (λ u. good-at es count i u (b .0)) (λ u. let q : i ≡ count = omega arith in rw q (b .1)) (below i count)
+
+  pub good-not : (count : ℕ) (es : List Entry) (i : ℕ) → i < count → goodEntry W H n (getD es i noEntry) ≡ false → false ≡ goodEntries W H n (firsts count es)
+  good-not count es i h e = by (goodEntries W H n (firsts count es)) refl
+    where
+      by : (t : Bool) → goodEntries W H n (firsts count es) ≡ t → false ≡ t
+      by true q = absurd (true≢false (sym (good-at es count i h q) ∙ e))
+      by false q = refl
+
+  module _ (count : ℕ) (es : List Entry) where
+    pub record Good : Type 0 where
+      pub some : 1 ≤ W
+      pub wide : W ≤ limit
+      pub tall : H ≤ limit
+      pub few : count ≤ 64
+      pub entries : goodEntries W H n es ≡ true
+
+    pub plan-good : goodPlan W H n count es ≡ true → Good
+    unfolding goodPlan
+    plan-good e =
+        let a = both (leb 1 W && leb W limit && leb H limit && leb count 64) _ e in
+        let b = both (leb 1 W && leb W limit && leb H limit) (leb count 64) (a .0) in
+        let c = both (leb 1 W && leb W limit) (leb H limit) (b .0) in
+        let d = both (leb 1 W) (leb W limit) (c .0) in
+        record { some = leb-true _ _ (d .0); wide = leb-true _ _ (d .1); tall = leb-true _ _ (c .1); few = leb-true _ _ (b .1); entries = a .1 }
+
+    -- a row that is not refused
+    pub record Given (row size : ℕ) : Type 0 where
+      pub good : Good
+      pub below : row < H
+      pub room : W * 4 ≤ size
+
+    pub row-given : (row room : ℕ) → rowRefusal W H n count es row room ≡ done → Given row room
+    unfolding rowRefusal
+    row-given row room = by (goodPlan W H n count es) refl (leb H row) refl (ltb room (4 * W)) refl
+      where
+        by : (a : Bool) → goodPlan W H n count es ≡ a → (b : Bool) → leb H row ≡ b → (c : Bool) → ltb room (4 * W) ≡ c
+            → (if not a then badPlan else if b then noRow else if c then noRoom else done) ≡ done → Given row room
+        by true p false q false r e = record { good = plan-good p; below = leb-false H row q; room = omega (arith, ltb-false room (4 * W) r) }
+        by true p false q true r e = absurd (omega arith)
+        by true p true q c r e = absurd (omega arith)
+        by false p b q c r e = absurd (omega arith)
+
+-- an entry that keeps its rules keeps them in a taller plan
+pub good-wider : (W H n : ℕ) (e : Entry) → H ≤ limit → goodEntry W H n e ≡ true → goodEntry W limit n e ≡ true
+unfolding goodEntry
+good-wider W H n e h g =
+    let a = both _ (goodKind n e) g in
+    let b = both (soundMode (e .mode) && leb (e .x + e .w) W) (leb (e .y + e .h) H) (a .0) in
+    rw (b .0, le-leb (e .y + e .h) limit (omega (arith, leb-true (e .y + e .h) H (b .1)))) (a .1)

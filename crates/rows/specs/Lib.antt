@@ -1,0 +1,2 @@
+-- What the contracts of rows say: document 01, "Row plans".
+pub mod Rows

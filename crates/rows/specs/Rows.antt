@@ -1,0 +1,75 @@
+-- The row of a plan, and its ink: 01, "Row plans". s is the given bytes, es the entries, W and H the plan's width and height.
+use Prim.Native.Nat.{ℕ, zero, suc, _+_, _*_}
+use mathlib.Core.List.{List, [], _∷_, _++_}
+use mathlib.Core.Bool.{Bool, true, not, _&&_}
+use lib.ListN.{length, getD}
+use lib.Dec.{ltb, leb, eqb}
+use Rattle.numbers.specs.Numbers.{limit, done, noRoom, badPlan, noRow}
+use Rattle.colour.specs.Choice.{if_then_else_}
+use Rattle.colour.specs.declared.RGBA.{RGBA}
+use Rattle.dots.specs.Dots.{dotAt, change, within}
+use Rattle.entries.specs.declared.Entry.{Entry}
+use Rattle.entries.specs.Entries.{goodEntry, entryOn}
+use Rattle.plan.specs.Plan.{noEntry}
+use Rattle.plan.specs.declared.Plan.{Plan}
+use Rattle.rows.specs.declared.RowAnswer.{RowAnswer}
+
+-- ---- the plan rules
+
+unfoldable pub goodEntries : ℕ → ℕ → ℕ → List Entry → Bool
+goodEntries W H n [] = true
+goodEntries W H n (e ∷ es) = goodEntry W H n e && goodEntries W H n es
+
+-- W is 1 to 16,384, height at most 16,384, at most 64 entries, and each keeps its rules. n is the number of the given bytes
+unfoldable pub goodPlan : ℕ → ℕ → ℕ → ℕ → List Entry → Bool
+goodPlan W H n count es = leb 1 W && leb W limit && leb H limit && leb count 64 && goodEntries W H n es
+
+-- order 14, 15, 1, for a row buffer of `room` bytes
+unfoldable pub rowRefusal : ℕ → ℕ → ℕ → ℕ → List Entry → ℕ → ℕ → ℕ
+rowRefusal W H n count es row room =
+    if not (goodPlan W H n count es) then badPlan
+    else if leb H row then noRow
+    else if ltb room (4 * W) then noRoom
+    else done
+
+-- ---- a row is paper with the entries applied in order
+
+unfoldable pub entriesOn : List ℕ → List Entry → ℕ → ℕ → RGBA → RGBA
+entriesOn s [] i j d = d
+entriesOn s (e ∷ es) i j d = entriesOn s es i j (entryOn s e i j d)
+
+-- the row's dots in the first 4·W bytes
+unfoldable pub rowOn : List ℕ → ℕ → RGBA → List Entry → ℕ → List ℕ → List ℕ
+rowOn s W paper es row l = change (within 0 W) (λ i _. entriesOn s es i row paper) l
+
+-- a dot has ink when its red is below 128
+unfoldable pub hasInk : RGBA → Bool
+hasInk d = ltb (d .r) 128
+
+-- how many of the first n dots have
+unfoldable pub ink : ℕ → List ℕ → ℕ
+ink zero l = 0
+ink (suc n) l = ink n l + (if hasInk (dotAt l n) then 1 else 0)
+
+-- ---- the row of a plan record: of its first `count` entries
+
+unfoldable pub firsts : ℕ → List Entry → List Entry
+firsts zero es = []
+firsts (suc n) es = firsts n es ++ (getD es n noEntry ∷ [])
+
+abbrev pub used : Plan → List Entry
+used p = firsts (p .count) (p .entries)
+
+abbrev pub planRefusal : Plan → ℕ → ℕ → ℕ → ℕ
+planRefusal p row n room = rowRefusal (p .width) (p .height) n (p .count) (used p) row room
+
+-- a refusal writes nothing and has no ink
+unfoldable pub rowWritten : List ℕ → Plan → ℕ → List ℕ → List ℕ
+rowWritten s p row l = if eqb (planRefusal p row (length s) (length l)) done then rowOn s (p .width) (p .«paper_color») (used p) row l else l
+
+unfoldable pub rowGiven : List ℕ → Plan → ℕ → List ℕ → RowAnswer
+rowGiven s p row l =
+    record {
+      number = planRefusal p row (length s) (length l);
+      ink = if eqb (planRefusal p row (length s) (length l)) done then ink (p .width) (rowOn s (p .width) (p .«paper_color») (used p) row l) else 0;
+    }

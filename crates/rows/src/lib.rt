@@ -1,0 +1,126 @@
+// The row of a plan, worked out alone: paper, with the plan's entries applied in order.
+ghost use mathlib.Core.Path.{_≡_};
+ghost use Prim.Native.Nat.{_*_, _<_, _≤_};
+ghost use lib.ListN.{length};
+ghost use Rattle.numbers.specs.Numbers.{limit, done};
+ghost use Rattle.colour.specs.Choice.{if_then_else_};
+ghost use Rattle.rows.specs.Rows.{goodEntries, goodPlan, rowOn, hasInk, ink, used, planRefusal, rowWritten, rowGiven};
+use colour::RGBA;
+use dots::fill_run;
+use dots::get_dot;
+use entries::draw_entry;
+use entries::good_entry;
+use job::kinds::MOST_COMMANDS;
+use numbers::BAD_PLAN;
+use numbers::DONE;
+use numbers::LIMIT;
+use numbers::NO_ROOM;
+use numbers::NO_ROW;
+use plan::Plan;
+
+// What a row answers: the number, and how many of its dots have ink.
+#[repr(C)]
+pub struct RowAnswer {
+    pub number: u8,
+    pub ink: u32,
+}
+
+fn good_entries(plan: Plan, n: usize) -> bool
+    requires { ⌜ plan .count ≤ 64 ⌝ }
+    ensures { λ r. ⌜ r ≡ goodEntries (plan .width) (plan .height) n (used plan) ⌝ }
+{
+    let mut i = 0;
+    while i < plan.count {
+        let e = plan.entries[i];
+        if good_entry(plan.width, plan.height, n, e) {
+            i += 1;
+        } else {
+            return false;
+        }
+    }
+    true
+}
+
+fn good_plan(plan: Plan, n: usize) -> bool
+    ensures { λ r. ⌜ r ≡ goodPlan (plan .width) (plan .height) n (plan .count) (used plan) ⌝ }
+{
+    if plan.width < 1 {
+        return false;
+    }
+    if plan.width > LIMIT {
+        return false;
+    }
+    if plan.height > LIMIT {
+        return false;
+    }
+    if plan.count > MOST_COMMANDS {
+        return false;
+    }
+    good_entries(plan, n)
+}
+
+fn row_refusal(plan: Plan, row: u32, n: usize, room: usize) -> u8
+    ensures { λ r. ⌜ r ≡ planRefusal plan row n room ⌝ }
+{
+    if good_plan(plan, n) {
+        if plan.height <= row {
+            return NO_ROW;
+        }
+        if room / 4 < plan.width as usize {
+            return NO_ROOM;
+        }
+        return DONE;
+    }
+    BAD_PLAN
+}
+
+// One where a dot has ink.
+fn inked(d: RGBA) -> u32
+    ensures { λ r. ⌜ r ≡ (if hasInk d then 1 else 0) ⌝ }
+{
+    if d.r < 128 {
+        return 1;
+    }
+    0
+}
+
+fn ink_of(line: &[u8], n: usize) -> u32
+    requires { ⌜ (n * 4 ≤ length (now line)) × (n ≤ limit) ⌝ }
+    ensures { λ r. ⌜ r ≡ ink n (now (line .entry)) ⌝ }
+{
+    let mut count = 0;
+    let mut i = 0;
+    while i < n {
+        count += inked(get_dot(line, i));
+        i += 1;
+    }
+    count
+}
+
+// The row of a plan that is known to be good.
+fn draw_row(plan: Plan, row: u32, data: &[u8], line: &mut [u8])
+    requires { ⌜ planRefusal plan row (length (now «data»)) (length (now line)) ≡ done ⌝ }
+    ensures { λ _. ⌜ now (line .exit) ≡ rowOn (now («data» .entry)) (plan .width) (plan .«paper_color») (used plan) row (now (line .entry)) ⌝ }
+{
+    let wide = plan.width as usize;
+    fill_run(line, 0, wide, plan.paper_color);
+    let mut i = 0;
+    while i < plan.count {
+        let e = plan.entries[i];
+        draw_entry(line, wide, 0, e, row as usize, 1, data);
+        i += 1;
+    }
+}
+
+pub fn row(plan: Plan, row: u32, data: &[u8], line: &mut [u8]) -> RowAnswer
+    ensures { λ r. ⌜ r ≡ rowGiven (now («data» .entry)) plan row (now (line .entry)) ⌝ }
+    ensures { λ _. ⌜ now (line .exit) ≡ rowWritten (now («data» .entry)) plan row (now (line .entry)) ⌝ }
+{
+    let number = row_refusal(plan, row, data.len(), line.len());
+    if number != DONE {
+        return RowAnswer { number, ink: 0 };
+    }
+    draw_row(plan, row, data, line);
+    let ink = ink_of(line, plan.width as usize);
+    RowAnswer { number: DONE, ink }
+}
