@@ -1,6 +1,6 @@
 // The row of a plan, worked out alone: paper, with the plan's entries applied in order.
 ghost use mathlib.Core.Path.{_≡_};
-ghost use Prim.Native.Nat.{_*_, _<_, _≤_};
+ghost use Prim.Native.Nat.{_*_, _≤_};
 ghost use lib.ListN.{length};
 ghost use Rattle.numbers.specs.Numbers.{limit, done};
 ghost use Rattle.colour.specs.Choice.{if_then_else_};
