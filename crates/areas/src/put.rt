@@ -24,7 +24,7 @@ fn draw_each(buf: &mut [u8], at: usize, count: usize, pixels: &[u8], from: usize
     }
 }
 
-// Every dot the same way, so that the compiler makes vectors of the loop.
+// Every dot is read, mixed and written, which is soon done where most dots have to be mixed.
 fn draw_alike(buf: &mut [u8], at: usize, count: usize, pixels: &[u8], from: usize, multiply: bool)
     requires { ⌜ ((at + count) * 4 ≤ length (now buf)) × ((from + count) * 4 ≤ length (now pixels)) ⌝ }
     ensures { λ _. ⌜ now (buf .exit) ≡ pixelsOn multiply (now (pixels .entry)) from at count (now (buf .entry)) ⌝ }

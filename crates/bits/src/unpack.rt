@@ -54,7 +54,7 @@ fn unpack_some(
 }
 
 // Eight dots at a time.
-fn unpack_bytes(
+fn unpack_eights(
     out: &mut [u8],
     at: usize,
     count: usize,
@@ -128,5 +128,5 @@ pub fn unpack_row(
         stretch_row(out, at, count, data, from, fx, color);
         return;
     }
-    unpack_bytes(out, at, count, data, from, fx, color, blend);
+    unpack_eights(out, at, count, data, from, fx, color, blend);
 }

@@ -1,5 +1,5 @@
 // The canvas, as in the Rust's thermal_image.rs: a record by value, and its dots in a buffer that
-// the caller lends. Every operation takes the record and hands the next one back.
+// the caller lends. Every operation that may change it takes the record and hands the next one back.
 mod refusals;
 mod sizes;
 

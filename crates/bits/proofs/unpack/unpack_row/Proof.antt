@@ -6,7 +6,7 @@ use Rattle.bits.proofs.unpack.unpack_row.Reads as reads
 use Rattle.bits.proofs.unpack.unpack_row.Lts as lts
 use Rattle.bits.proofs.unpack.by_bits.Reads as by-bits-reads
 use Rattle.bits.proofs.unpack.stretch_row.Reads as stretch-row-reads
-use Rattle.bits.proofs.unpack.unpack_bytes.Reads as unpack-bytes-reads
+use Rattle.bits.proofs.unpack.unpack_eights.Reads as unpack-eights-reads
 
 by-bits-requires : tie.Need-by-bits-requires
 by-bits-requires c κs = search needs
@@ -20,8 +20,8 @@ same-length c = search needs
 returns : tie.Need-returns
 returns c = let t = c .before .before .before .before in rw (t .before .by-bits .ensures (t .if1 .taken)) (c .before .before .stretch-row .ensures)
 
-unpack-bytes-requires : tie.Need-unpack-bytes-requires
-unpack-bytes-requires c κs = search needs
+unpack-eights-requires : tie.Need-unpack-eights-requires
+unpack-eights-requires c κs = search needs
 
 same-length-2 : tie.Need-same-length-2
 same-length-2 c = search needs
@@ -37,6 +37,6 @@ unpack-row-spec =
     stretch-row-requires
     same-length
     returns
-    unpack-bytes-requires
+    unpack-eights-requires
     same-length-2
     returns-2)

@@ -1,4 +1,4 @@
--- `bits::unpack::unpack_bytes` meets its contract. Assumes nothing.
+-- `bits::unpack::unpack_eights` meets its contract. Assumes nothing.
 use mathlib.Core.Path.{refl}
 use Prim.Native.Nat.{_-_}
 use native.Mathlib.Omega.{arith}
@@ -6,10 +6,10 @@ use Rattle.dots.specs.Dots.{tab}
 use Rattle.bits.specs.Bits.{pixelLanded}
 use Rattle.bits.proofs.Rows.{Bits, bits-start, bits-next, bits-shown, bits-end}
 use borrow.Author.Needs.{needs}
-use Rattle.bits.proofs.unpack.unpack_bytes.Statement.{statement}
-use Rattle.bits.proofs.unpack.unpack_bytes.Tie as tie
-use Rattle.bits.proofs.unpack.unpack_bytes.Reads as reads
-use Rattle.bits.proofs.unpack.unpack_bytes.Lts as lts
+use Rattle.bits.proofs.unpack.unpack_eights.Statement.{statement}
+use Rattle.bits.proofs.unpack.unpack_eights.Tie as tie
+use Rattle.bits.proofs.unpack.unpack_eights.Reads as reads
+use Rattle.bits.proofs.unpack.unpack_eights.Lts as lts
 use Rattle.bits.proofs.gather.dot_bits.Reads as dot-bits-reads
 use Rattle.bits.proofs.gather.least.Reads as least-reads
 use Rattle.bits.proofs.unpack.unpack_some.Reads as unpack-some-reads
@@ -58,8 +58,8 @@ same-length c = omega arith
 returns : tie.Need-returns Inv-loop μ-loop
 returns c = bits-end _ _ _ _ _ _ _ (c .before .loop .inv) (c .loop-test .left)
 
-pub unpack-bytes-spec : {M : Type 1} → statement M
-unpack-bytes-spec =
+pub unpack-eights-spec : {M : Type 1} → statement M
+unpack-eights-spec =
     tie.close
     (tie.spec
     Inv-loop
