@@ -1,3 +1,4 @@
+mod Made
 mod Tests
 mod Images
 mod Drawing

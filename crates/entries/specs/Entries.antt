@@ -1,5 +1,5 @@
 -- One entry of a row plan, and what it does to a dot: 01, "Row plans".
-use Prim.Native.Nat.{ℕ, _+_, _-_, _*_, _≤_}
+use Prim.Native.Nat.{ℕ, _+_, _-_, _*_, _≤_, min}
 use mathlib.Core.Path.{_≡_}
 use mathlib.Core.Bool.{Bool, true, _&&_, _||_}
 use mathlib.Core.List.{List}
@@ -15,6 +15,40 @@ use Rattle.graphics.specs.Decoding.{pixelOf}
 use Rattle.areas.specs.Areas.{inArea, areaOn}
 use Rattle.job.specs.Commands.{rectangleKind, imageKind, soundMode}
 use Rattle.entries.specs.declared.Entry.{Entry}
+
+-- ---- the entry of a rectangle, and of an image of w by h dots stretched fx and fy times, on paper W wide: cropped
+
+unfoldable pub rectangleEntry : ℕ → ℕ → ℕ → ℕ → ℕ → RGBA → ℕ → Entry
+rectangleEntry W x y w h c mode = record {
+  kind = rectangleKind;
+  mode = mode;
+  «stretch_x» = 0;
+  «stretch_y» = 0;
+  color = c;
+  x = x;
+  y = y;
+  w = min w (W - x);
+  h = h;
+  «original_width» = 0;
+  «original_height» = 0;
+  start = 0;
+}
+
+unfoldable pub imageEntry : ℕ → ℕ → ℕ → ℕ → ℕ → ℕ → ℕ → RGBA → ℕ → ℕ → Entry
+imageEntry W x y w h fx fy c mode start = record {
+  kind = imageKind;
+  mode = mode;
+  «stretch_x» = fx;
+  «stretch_y» = fy;
+  color = c;
+  x = x;
+  y = y;
+  w = min (w * fx) (W - x);
+  h = h * fy;
+  «original_width» = w;
+  «original_height» = h;
+  start = start;
+}
 
 -- ---- the rules that an entry keeps, in a plan W wide and H high with n bytes of data
 

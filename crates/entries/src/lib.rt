@@ -1,16 +1,18 @@
-// One entry of a row plan: a rectangle or an image, cropped and in its final place, and how it is
-// drawn on rows of dots. The run, the plan and the lent list all draw by `draw_entry`.
+// One entry of a row plan: a rectangle or an image, cropped and in its place, and how it is drawn on
+// rows of dots. The run, the plan and the lent list all draw by `draw_entry`.
 mod image;
 mod rules;
 
 ghost use mathlib.Core.Path.{_≡_};
 ghost use mathlib.Core.Bool.{true};
-ghost use Prim.Native.Nat.{_+_, _≤_, min, max};
+ghost use Prim.Native.Nat.{_+_, _*_, _≤_, min, max};
 ghost use lib.ListN.{length};
 ghost use Rattle.numbers.specs.Numbers.{limit};
-ghost use Rattle.entries.specs.Entries.{goodEntry, entryRows, Placed};
+ghost use Rattle.graphics.specs.Decoding.{factor};
+ghost use Rattle.entries.specs.Entries.{rectangleEntry, imageEntry, goodEntry, entryRows, Placed};
 use areas::draw_area;
 use colour::RGBA;
+use graphics::factor_of;
 use image::image_rows;
 pub use rules::good_entry;
 
@@ -40,6 +42,61 @@ impl Entry {
     pub const BLEND: u8 = 0;
 
     pub const MULTIPLY: u8 = 1;
+
+    pub fn rectangle(width: u32, x: u32, y: u32, w: u32, h: u32, color: RGBA, mode: u8) -> Entry
+        requires { ⌜ x ≤ width ⌝ }
+        ensures { λ r. ⌜ r ≡ rectangleEntry width x y w h color mode ⌝ }
+    {
+        let cut = smaller(w as usize, (width - x) as usize) as u32;
+        Entry {
+            kind: Entry::RECTANGLE,
+            mode,
+            stretch_x: 0,
+            stretch_y: 0,
+            color,
+            x,
+            y,
+            w: cut,
+            h,
+            original_width: 0,
+            original_height: 0,
+            start: 0,
+        }
+    }
+
+    pub fn image(
+        width: u32,
+        x: u32,
+        y: u32,
+        w: u32,
+        h: u32,
+        sx: u8,
+        sy: u8,
+        color: RGBA,
+        mode: u8,
+        start: usize,
+    ) -> Entry
+        requires { ⌜ (x ≤ width) × (w * factor sx ≤ limit) × (h * factor sy ≤ limit) ⌝ }
+        ensures { λ r. ⌜ r ≡ imageEntry width x y w h (factor sx) (factor sy) color mode start ⌝ }
+    {
+        let fx = factor_of(sx);
+        let fy = factor_of(sy);
+        let cut = smaller((w * fx) as usize, (width - x) as usize) as u32;
+        Entry {
+            kind: Entry::IMAGE,
+            mode,
+            stretch_x: fx as u8,
+            stretch_y: fy as u8,
+            color,
+            x,
+            y,
+            w: cut,
+            h: h * fy,
+            original_width: w,
+            original_height: h,
+            start,
+        }
+    }
 }
 
 fn larger(a: usize, b: usize) -> usize

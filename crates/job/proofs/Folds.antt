@@ -1,13 +1,16 @@
 -- Laws of heights, kept commands and dropped lists, command by command. Assumes nothing.
-use Prim.Native.Nat.{ℕ, _+_, _≤_}
-use mathlib.Core.Path.{_≡_, refl}
-use mathlib.Core.List.{List, [], _∷_}
+use Prim.Native.Nat.{ℕ, suc, _+_, _-_, _≤_, _<_}
+use mathlib.Core.Path.{_≡_, refl, sym, _∙_}
+use mathlib.Core.List.{List, [], _∷_, _++_}
 use mathlib.Core.Bool.{Bool, true, false}
+use native.Mathlib.Omega.{arith}
 use borrow.Author.Tests.{eq-eqb, ne-eqb, eqb-true}
+use lib.ListN.{length, set, replicate, length-append}
+use lib.Seq.{set-append-seam, append-snoc}
 use Rattle.numbers.specs.Numbers.{limit, done}
 use Rattle.colour.specs.Choice.{if_then_else_}
 use Rattle.job.specs.declared.commands.Command.{Command}
-use Rattle.job.specs.Dropping.{refusal, grown, kept, next, heightFrom, keptFrom, droppedFrom}
+use Rattle.job.specs.Dropping.{mostCommands, refusal, grown, kept, next, heightFrom, keptFrom, droppedFrom, padded}
 use Rattle.job.proofs.Reasons.{grown-fits}
 
 -- ---- one command, kept or dropped
@@ -60,3 +63,12 @@ pub keeps-fits : {W H H' : ℕ} {cs ks : List Command} → Keeps W H cs ks H' �
 keeps-fits none h = h
 keeps-fits {W} {H} (keep {c = c} e r) h = keeps-fits r (grown-fits W H c e)
 keeps-fits (drop r) h = keeps-fits r h
+
+-- ---- a list in a record, one more
+
+pub padded-more : {A : Type 0} (z a : A) (l : List A) → length l < mostCommands → set (padded z l) (length l) a ≡ padded z (l ++ (a ∷ []))
+unfolding padded
+padded-more z a l h =
+    let n : ℕ = mostCommands - length (l ++ (a ∷ [])) in
+    let e : mostCommands - length l ≡ suc n = omega (arith, length-append l (a ∷ [])) in
+    rw e (set-append-seam l z (replicate n z) a ∙ sym (append-snoc l a (replicate n z)))

@@ -1,8 +1,8 @@
 -- What a job is refused for, and what its commands are dropped for: 01, "Jobs". A run starts at height 0 with growth on; W is the paper's width and H the height so far.
-use Prim.Native.Nat.{ℕ, _+_, _*_, max}
-use mathlib.Core.List.{List, [], _∷_}
+use Prim.Native.Nat.{ℕ, _+_, _-_, _*_, max}
+use mathlib.Core.List.{List, [], _∷_, _++_}
 use mathlib.Core.Bool.{Bool, not, _||_}
-use lib.ListN.{length}
+use lib.ListN.{length, replicate}
 use lib.Dec.{ltb, leb, eqb}
 use Rattle.numbers.specs.Numbers.{limit, done, tooLarge, wrongLength, offPaper, tooTall, emptyArea, badJob, tooLong}
 use Rattle.colour.specs.Choice.{if_then_else_}
@@ -102,3 +102,11 @@ keptOf s = keptFrom (paperWidth s) 0 (commands s)
 -- the first after the paper is 0
 unfoldable pub jobDropped : List ℕ → List Dropped
 jobDropped s = droppedFrom (paperWidth s) 0 0 (commands s)
+
+-- ---- a list in a record has a place for each command. Unused places are zero, in dropped lists too
+
+abbrev pub noDropped : Dropped
+noDropped = record { place = 0; reason = 0 }
+
+unfoldable pub padded : {A : Type 0} → A → List A → List A
+padded none l = l ++ replicate (mostCommands - length l) none

@@ -1,9 +1,8 @@
 -- What the functions of a translation answer. Assumes nothing.
-use Prim.Native.Nat.{ℕ, suc, _+_, _*_, _-_, _≤_, _<_, min, max}
+use Prim.Native.Nat.{ℕ, suc, _+_, _*_, _≤_, max}
 use mathlib.Core.Path.{_≡_, refl, ap, sym, _∙_}
 use mathlib.Core.List.{List, []}
 use mathlib.Core.Bool.{Bool, true, false}
-use native.Mathlib.Nat.{add-zero}
 use native.Mathlib.Numerals.{add-one}
 use borrow.Author.Tests.{eq-eqb, ne-eqb}
 use lib.ListN.{getD, set}
@@ -14,61 +13,40 @@ use Rattle.colour.specs.declared.RGBA.{RGBA}
 use Rattle.graphics.specs.Decoding.{factor}
 use Rattle.job.specs.declared.commands.Command.{Command}
 use Rattle.job.specs.declared.commands.Command.the-variants.{Rectangle, Image, Margin, Flip}
-use Rattle.job.specs.Commands.{rectangleKind, imageKind, commands}
+use Rattle.job.specs.Commands.{commands}
 use Rattle.job.specs.Dropping.{refusal, jobRefusal}
 use Rattle.entries.specs.declared.Entry.{Entry}
 use Rattle.plan.specs.declared.Plan.{Plan}
 use Rattle.plan.specs.declared.Translated.{Translated}
-use Rattle.plan.specs.Plan.{rectangleEntry, imageEntry, noEntry, planWith, planOf, hasFlip, translateRefusal, translated}
-use Rattle.plan.specs.Steps.{lower, lowered, withEntries, pushed, leftOut, planned, stepped}
+use Rattle.entries.specs.Entries.{rectangleEntry, imageEntry}
+use Rattle.plan.specs.Plan.{lower, noEntry, planWith, planOf, hasFlip, translateRefusal, translated}
+use Rattle.plan.specs.Steps.{lowered, withEntries, pushed, leftOut, planned, stepped}
 use Rattle.plan.proofs.Listed.{set-lowered}
 
 -- ---- an entry pushed
 
-pub rectangle-planned : (p : Plan) {r : Plan} (x y w h : ℕ) (c : RGBA) (m : ℕ) {cut tall : ℕ} → cut ≡ min w (p .width - x) → tall ≡ max (p .height) (y + h)
-    → r ≡ pushed p tall (record {
-      kind = rectangleKind;
-      mode = m;
-      «stretch_x» = 0;
-      «stretch_y» = 0;
-      color = c;
-      x = x;
-      y = y;
-      w = cut;
-      h = h;
-      «original_width» = 0;
-      «original_height» = 0;
-      start = 0;
-    })
-    → r ≡ planned p (Rectangle x y w h c m)
-unfolding planned rectangleEntry
-rectangle-planned p x y w h c m e f g = g ∙ rw (e, f, add-zero y)
+pub pushed-high : (p : Plan) (e : Entry) {height : ℕ} → height ≡ max (p .height) (e .y + e .h)
+    → withEntries p height (p .count + 1) (set (p .entries) (p .count) e) ≡ pushed p e
+pushed-high p e q = rw q refl
 
-pub image-planned : (p : Plan) {r : Plan} (x y w h sx sy : ℕ) (c : RGBA) (m start size : ℕ) {fx fy cut tall : ℕ} → fx ≡ factor sx → fy ≡ factor sy
-    → cut ≡ min (w * fx) (p .width - x) → tall ≡ max (p .height) (y + h * fy)
-    → r ≡ pushed p tall (record {
-      kind = imageKind;
-      mode = m;
-      «stretch_x» = fx;
-      «stretch_y» = fy;
-      color = c;
-      x = x;
-      y = y;
-      w = cut;
-      h = h * fy;
-      «original_width» = w;
-      «original_height» = h;
-      start = start;
-    })
-    → r ≡ planned p (Image x y w h sx sy c m start size)
-unfolding planned imageEntry
-image-planned p x y w h sx sy c m start size a b e f g = g ∙ rw (e, f, a, b, add-zero y)
+module _ (p : Plan) {r : Plan} {e : Entry} (g : r ≡ pushed p e) where
+  pub rectangle-planned : (x y w h : ℕ) (c : RGBA) (m : ℕ) → e ≡ rectangleEntry (p .width) x y w h c m → r ≡ planned p (Rectangle x y w h c m)
+  unfolding planned
+  rectangle-planned x y w h c m q = g ∙ rw q refl
 
-pub scaled : (w : ℕ) {f g b : ℕ} → f ≡ g → w * g ≤ b → w * f ≤ b
-scaled w e h = rw e h
+  pub image-planned : (x y w h sx sy : ℕ) (c : RGBA) (m start size : ℕ) → e ≡ imageEntry (p .width) x y w h (factor sx) (factor sy) c m start
+      → r ≡ planned p (Image x y w h sx sy c m start size)
+  unfolding planned
+  image-planned x y w h sx sy c m start size q = g ∙ rw q refl
 
-pub reached : (y h : ℕ) {f g b : ℕ} → f ≡ g → y + h * g ≤ b → y + h * f ≤ b
-reached y h e k = rw e k
+-- an entry ends where its command does
+pub rectangle-end : (W x y w h : ℕ) (c : RGBA) (m : ℕ) {b : ℕ} {e : Entry} → e ≡ rectangleEntry W x y w h c m → y + h ≤ b → e .y + e .h ≤ b
+unfolding rectangleEntry
+rectangle-end W x y w h c m q l = rw q l
+
+pub image-end : (W x y w h fx fy : ℕ) (c : RGBA) (m start : ℕ) {b : ℕ} {e : Entry} → e ≡ imageEntry W x y w h fx fy c m start → y + h * fy ≤ b → e .y + e .h ≤ b
+unfolding imageEntry
+image-end W x y w h fx fy c m start q l = rw q l
 
 -- ---- entries moved down
 

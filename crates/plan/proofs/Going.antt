@@ -18,14 +18,15 @@ use Rattle.job.specs.declared.commands.Command.{Command}
 use Rattle.job.specs.declared.commands.Command.the-variants.{Rectangle, Image, Margin, Flip}
 use Rattle.job.specs.Records.{recordAt}
 use Rattle.job.specs.Commands.{rectangleKind, imageKind, marginKind, flipKind, flipSize, soundCommand, commandsStart, paperWidth, paperColor, commandAt, commands}
-use Rattle.job.specs.Dropping.{mostCommands, refusal, grown, kept, jobHeight, jobDropped, keptOf}
+use Rattle.job.specs.Dropping.{mostCommands, refusal, grown, kept, jobHeight, jobDropped, keptOf, padded}
 use Rattle.job.proofs.Soundness.{and-both}
 use Rattle.job.proofs.Walk.{rest, rest-record, rest-end, Good, Left, left-start, left-sound, left-next, left-bad, Looked, looked-start, looked-few, looked-kept, looked-dropped, looked-end}
 use Rattle.entries.specs.declared.Entry.{Entry}
 use Rattle.plan.specs.declared.Plan.{Plan}
-use Rattle.plan.specs.Plan.{rectangleEntry, imageEntry, margins, entriesOf, isFlip, hasFlip, padded, planWith, planOf}
+use Rattle.entries.specs.Entries.{rectangleEntry, imageEntry}
+use Rattle.plan.specs.Plan.{margins, entriesOf, isFlip, hasFlip, planWith, planOf}
 use Rattle.plan.specs.Steps.{planned, stepped, Ready}
-use Rattle.plan.proofs.Listed.{entries-more, entries-margin, entries-few, Low, low-none, low-get, low-push, low-down, push-with, drop-with, shift-with}
+use Rattle.plan.proofs.Listed.{lower-none, entries-more, entries-margin, entries-few, Low, low-none, low-get, low-push, low-down, push-with, drop-with, shift-with}
 
 or-both : (a b : Bool) → (a || b) ≡ false → (a ≡ false) × (b ≡ false)
 or-both true b e = absurd (true≢false e)
@@ -42,18 +43,18 @@ module _ (W : ℕ) (paper : RGBA) (H : ℕ) (ks : List Command) (ds : List Dropp
   unfolding planned isFlip grown
   after (Rectangle x y w h c m) f =
       let d : Command = Rectangle x y w h c m in
-      let n : Entry = rectangleEntry W 0 x y w h c m in
-      let e : entriesOf W (ks ++ (d ∷ [])) ≡ entriesOf W ks ++ (n ∷ []) = entries-more W ks d n (unfold margins in refl) (unfold entriesOf in (unfold margins in refl)) in
+      let n : Entry = rectangleEntry W x y w h c m in
+      let e : entriesOf W (ks ++ (d ∷ [])) ≡ entriesOf W ks ++ (n ∷ []) = entries-more W ks d n (unfold margins in refl) (unfold entriesOf in (unfold margins in (ap (λ (e : Entry). e ∷ []) (lower-none n)))) in
       record {
-        same = push-with W paper H (entriesOf W ks) ds (max H (y + h)) n (omega (arith, entries-few W ks)) ∙ ap (λ (es : List Entry). planWith W paper (max H (y + h)) es ds) (sym e);
+        same = push-with W paper H (entriesOf W ks) ds n (omega (arith, entries-few W ks)) ∙ rw (← e) (unfold rectangleEntry in refl);
         low = rw e (low-push l (omega arith) n (unfold rectangleEntry in (omega arith)));
       }
   after (Image x y w h sx sy c m start size) f =
       let d : Command = Image x y w h sx sy c m start size in
-      let n : Entry = imageEntry W 0 x y w h (factor sx) (factor sy) c m start in
-      let e : entriesOf W (ks ++ (d ∷ [])) ≡ entriesOf W ks ++ (n ∷ []) = entries-more W ks d n (unfold margins in refl) (unfold entriesOf in (unfold margins in refl)) in
+      let n : Entry = imageEntry W x y w h (factor sx) (factor sy) c m start in
+      let e : entriesOf W (ks ++ (d ∷ [])) ≡ entriesOf W ks ++ (n ∷ []) = entries-more W ks d n (unfold margins in refl) (unfold entriesOf in (unfold margins in (ap (λ (e : Entry). e ∷ []) (lower-none n)))) in
       record {
-        same = push-with W paper H (entriesOf W ks) ds (max H (y + h * factor sy)) n (omega (arith, entries-few W ks)) ∙ ap (λ (es : List Entry). planWith W paper (max H (y + h * factor sy)) es ds) (sym e);
+        same = push-with W paper H (entriesOf W ks) ds n (omega (arith, entries-few W ks)) ∙ rw (← e) (unfold imageEntry in refl);
         low = rw e (low-push l (omega arith) n (unfold imageEntry in (omega arith)));
       }
   after (Margin m) f =

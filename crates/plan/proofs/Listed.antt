@@ -11,12 +11,17 @@ use Rattle.graphics.specs.Decoding.{factor}
 use Rattle.job.specs.declared.dropping.Dropped.{Dropped}
 use Rattle.job.specs.declared.commands.Command.{Command}
 use Rattle.job.specs.declared.commands.Command.the-variants.{Rectangle, Image, Margin, Flip}
+use Rattle.job.specs.Dropping.{noDropped, padded}
+use Rattle.job.proofs.Folds.{padded-more}
 use Rattle.entries.specs.declared.Entry.{Entry}
 use Rattle.plan.specs.declared.Plan.{Plan}
-use Rattle.plan.specs.Plan.{rectangleEntry, imageEntry, margins, entriesOf, noEntry, noDropped, padded, planWith}
-use Rattle.plan.specs.Steps.{lower, lowered, pushed, shifted, leftOut}
+use Rattle.plan.specs.Plan.{lower, margins, entriesOf, noEntry, planWith}
+use Rattle.plan.specs.Steps.{lowered, pushed, shifted, leftOut}
 
 -- ---- one command more
+
+pub lower-none : (e : Entry) → lower 0 e ≡ e
+lower-none e = rw (add-zero (e .y)) refl
 
 unfoldable pub down : ℕ → List Entry → List Entry
 down m [] = []
@@ -41,10 +46,10 @@ entries-more W (Flip x y w h ∷ ks) c n z e = entries-more W ks c n z e
 
 -- a margin moves them all
 pub entries-margin : (W : ℕ) (ks : List Command) (m : ℕ) → entriesOf W (ks ++ (Margin m ∷ [])) ≡ down m (entriesOf W ks)
-unfolding entriesOf down margins rectangleEntry imageEntry
+unfolding entriesOf down margins
 entries-margin W [] m = refl
-entries-margin W (Rectangle x y w h d mode ∷ ks) m = rw (margins-more ks (Margin m), entries-margin W ks m, add-zero m, ← add-assoc y (margins ks) m)
-entries-margin W (Image x y w h sx sy d mode start size ∷ ks) m = rw (margins-more ks (Margin m), entries-margin W ks m, add-zero m, ← add-assoc y (margins ks) m)
+entries-margin W (Rectangle x y w h d mode ∷ ks) m = rw (margins-more ks (Margin m), entries-margin W ks m, add-zero m, ← add-assoc _ (margins ks) m)
+entries-margin W (Image x y w h sx sy d mode start size ∷ ks) m = rw (margins-more ks (Margin m), entries-margin W ks m, add-zero m, ← add-assoc _ (margins ks) m)
 entries-margin W (Margin n ∷ ks) m = entries-margin W ks m
 entries-margin W (Flip x y w h ∷ ks) m = entries-margin W ks m
 
@@ -79,13 +84,6 @@ low-down m (low-more {e = e} b l) = low-more {e = lower m e} (omega arith) (low-
 
 -- ---- the lists in the record
 
-padded-more : {A : Type 0} (none a : A) (l : List A) → length l < 64 → set (padded none l) (length l) a ≡ padded none (l ++ (a ∷ []))
-unfolding padded
-padded-more none a l h =
-    let n : ℕ = 64 - length (l ++ (a ∷ [])) in
-    let e : 64 - length l ≡ suc n = omega (arith, length-append l (a ∷ [])) in
-    rw e (set-append-seam l none (replicate n none) a ∙ sym (append-snoc l a (replicate n none)))
-
 pub length-down : (m : ℕ) (es : List Entry) → length (down m es) ≡ length es
 unfolding down
 length-down m [] = refl
@@ -97,8 +95,8 @@ lowered-down m [] fs = refl
 lowered-down m (e ∷ es) fs = ap (λ (l : List Entry). lower m e ∷ l) (lowered-down m es fs)
 
 module _ (W : ℕ) (paper : RGBA) (H : ℕ) (es : List Entry) (ds : List Dropped) where
-  pub push-with : (height : ℕ) (e : Entry) → length es < 64 → pushed (planWith W paper H es ds) height e ≡ planWith W paper height (es ++ (e ∷ [])) ds
-  push-with height e h = rw (padded-more noEntry e es h, ← length-append es (e ∷ [])) refl
+  pub push-with : (e : Entry) → length es < 64 → pushed (planWith W paper H es ds) e ≡ planWith W paper (max H (e .y + e .h)) (es ++ (e ∷ [])) ds
+  push-with e h = rw (padded-more noEntry e es h, ← length-append es (e ∷ [])) refl
 
   pub drop-with : (k why : ℕ) → length ds < 64 → leftOut (planWith W paper H es ds) k why ≡ planWith W paper H es (ds ++ (record { place = k; reason = why } ∷ []))
   drop-with k why h = rw (padded-more noDropped (record { place = k; reason = why }) ds h, ← length-append ds (record { place = k; reason = why } ∷ [])) refl

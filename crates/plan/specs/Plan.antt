@@ -1,56 +1,41 @@
 -- Row plans: 01, "Row plans".
-use Prim.Native.Nat.{ℕ, _+_, _*_, _-_, min}
-use mathlib.Core.List.{List, [], _∷_, _++_}
+use Prim.Native.Nat.{ℕ, _+_}
+use mathlib.Core.List.{List, [], _∷_}
 use mathlib.Core.Bool.{Bool, true, false, _||_}
-use lib.ListN.{length, replicate}
+use lib.ListN.{length}
 use lib.Dec.{eqb}
 use Rattle.numbers.specs.Numbers.{done, notTranslated}
 use Rattle.colour.specs.Choice.{if_then_else_}
 use Rattle.colour.specs.Colour.{blank}
 use Rattle.colour.specs.declared.RGBA.{RGBA}
 use Rattle.graphics.specs.Decoding.{factor}
-use Rattle.job.specs.Commands.{rectangleKind, imageKind, paperWidth, paperColor, commands}
-use Rattle.job.specs.Dropping.{mostCommands, jobRefusal, jobHeight, jobDropped, keptOf}
+use Rattle.job.specs.Commands.{paperWidth, paperColor, commands}
+use Rattle.job.specs.Dropping.{jobRefusal, jobHeight, jobDropped, keptOf, noDropped, padded}
 use Rattle.job.specs.declared.dropping.Dropped.{Dropped}
 use Rattle.job.specs.declared.commands.Command.{Command}
 use Rattle.job.specs.declared.commands.Command.the-variants.{Rectangle, Image, Margin, Flip}
 use Rattle.entries.specs.declared.Entry.{Entry}
+use Rattle.entries.specs.Entries.{rectangleEntry, imageEntry}
 use Rattle.plan.specs.declared.Plan.{Plan}
 use Rattle.plan.specs.declared.Translated.{Translated}
 
 -- ---- entries
 
--- the entry of a rectangle, and of an image, on paper W wide: cropped, and m rows further down
-unfoldable pub rectangleEntry : ℕ → ℕ → ℕ → ℕ → ℕ → ℕ → RGBA → ℕ → Entry
-rectangleEntry W m x y w h c mode = record {
-  kind = rectangleKind;
-  mode = mode;
-  «stretch_x» = 0;
-  «stretch_y» = 0;
-  color = c;
-  x = x;
-  y = y + m;
-  w = min w (W - x);
-  h = h;
-  «original_width» = 0;
-  «original_height» = 0;
-  start = 0;
-}
-
-unfoldable pub imageEntry : ℕ → ℕ → ℕ → ℕ → ℕ → ℕ → ℕ → ℕ → RGBA → ℕ → ℕ → Entry
-imageEntry W m x y w h fx fy c mode start = record {
-  kind = imageKind;
-  mode = mode;
-  «stretch_x» = fx;
-  «stretch_y» = fy;
-  color = c;
-  x = x;
-  y = y + m;
-  w = min (w * fx) (W - x);
-  h = h * fy;
-  «original_width» = w;
-  «original_height» = h;
-  start = start;
+-- the entry m rows further down
+abbrev pub lower : ℕ → Entry → Entry
+lower m e = record {
+  kind = e .kind;
+  mode = e .mode;
+  «stretch_x» = e .«stretch_x»;
+  «stretch_y» = e .«stretch_y»;
+  color = e .color;
+  x = e .x;
+  y = e .y + m;
+  w = e .w;
+  h = e .h;
+  «original_width» = e .«original_width»;
+  «original_height» = e .«original_height»;
+  start = e .start;
 }
 
 -- the rows that margins add
@@ -61,11 +46,11 @@ margins (Image x y w h sx sy c mode start size ∷ cs) = margins cs
 margins (Margin m ∷ cs) = m + margins cs
 margins (Flip x y w h ∷ cs) = margins cs
 
--- one entry for each kept rectangle or image, zero areas too, its y moved by later margins
+-- one entry for each kept rectangle or image, zero areas too, cropped, its y moved by later margins
 unfoldable pub entriesOf : ℕ → List Command → List Entry
 entriesOf W [] = []
-entriesOf W (Rectangle x y w h c mode ∷ cs) = rectangleEntry W (margins cs) x y w h c mode ∷ entriesOf W cs
-entriesOf W (Image x y w h sx sy c mode start size ∷ cs) = imageEntry W (margins cs) x y w h (factor sx) (factor sy) c mode start ∷ entriesOf W cs
+entriesOf W (Rectangle x y w h c mode ∷ cs) = lower (margins cs) (rectangleEntry W x y w h c mode) ∷ entriesOf W cs
+entriesOf W (Image x y w h sx sy c mode start size ∷ cs) = lower (margins cs) (imageEntry W x y w h (factor sx) (factor sy) c mode start) ∷ entriesOf W cs
 entriesOf W (Margin m ∷ cs) = entriesOf W cs
 entriesOf W (Flip x y w h ∷ cs) = entriesOf W cs
 
@@ -84,7 +69,7 @@ hasFlip (c ∷ cs) = isFlip c || hasFlip cs
 unfoldable pub translateRefusal : List ℕ → ℕ
 translateRefusal s = if eqb (jobRefusal s) done then (if hasFlip (commands s) then notTranslated else done) else jobRefusal s
 
--- unused places are zero, in dropped lists too
+-- unused places are zero
 abbrev pub noEntry : Entry
 noEntry = record {
   kind = 0;
@@ -100,12 +85,6 @@ noEntry = record {
   «original_height» = 0;
   start = 0;
 }
-
-abbrev pub noDropped : Dropped
-noDropped = record { place = 0; reason = 0 }
-
-unfoldable pub padded : {A : Type 0} → A → List A → List A
-padded none l = l ++ replicate (mostCommands - length l) none
 
 -- the record of a plan with entries es and dropped commands ds
 abbrev pub planWith : ℕ → RGBA → ℕ → List Entry → List Dropped → Plan

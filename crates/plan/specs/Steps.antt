@@ -1,5 +1,5 @@
 -- Inner steps of a translation: what is made of a plan record at each command.
-use Prim.Native.Nat.{ℕ, zero, suc, _+_, _*_, _≤_, _<_, max}
+use Prim.Native.Nat.{ℕ, zero, suc, _+_, _≤_, _<_, max}
 use mathlib.Core.List.{List, [], _∷_}
 use lib.ListN.{getD, set}
 use Rattle.numbers.specs.Numbers.{limit}
@@ -10,24 +10,8 @@ use Rattle.job.specs.declared.commands.Command.the-variants.{Rectangle, Image, 
 use Rattle.job.specs.Dropping.{mostCommands, refusal, kept}
 use Rattle.entries.specs.declared.Entry.{Entry}
 use Rattle.plan.specs.declared.Plan.{Plan}
-use Rattle.plan.specs.Plan.{rectangleEntry, imageEntry, noEntry}
-
--- the entry m rows further down
-abbrev pub lower : ℕ → Entry → Entry
-lower m e = record {
-  kind = e .kind;
-  mode = e .mode;
-  «stretch_x» = e .«stretch_x»;
-  «stretch_y» = e .«stretch_y»;
-  color = e .color;
-  x = e .x;
-  y = e .y + m;
-  w = e .w;
-  h = e .h;
-  «original_width» = e .«original_width»;
-  «original_height» = e .«original_height»;
-  start = e .start;
-}
+use Rattle.entries.specs.Entries.{rectangleEntry, imageEntry}
+use Rattle.plan.specs.Plan.{lower, noEntry}
 
 -- the first n entries m rows further down
 unfoldable pub lowered : ℕ → ℕ → List Entry → List Entry
@@ -47,8 +31,8 @@ withEntries p height count es = record {
 }
 
 -- one entry more, and the height after it
-abbrev pub pushed : Plan → ℕ → Entry → Plan
-pushed p height e = withEntries p height (p .count + 1) (set (p .entries) (p .count) e)
+abbrev pub pushed : Plan → Entry → Plan
+pushed p e = withEntries p (max (p .height) (e .y + e .h)) (p .count + 1) (set (p .entries) (p .count) e)
 
 -- a margin of m rows
 abbrev pub shifted : Plan → ℕ → Plan
@@ -67,8 +51,8 @@ leftOut p k why = record {
 }
 
 unfoldable pub planned : Plan → Command → Plan
-planned p (Rectangle x y w h c m) = pushed p (max (p .height) (y + h)) (rectangleEntry (p .width) 0 x y w h c m)
-planned p (Image x y w h sx sy c m start size) = pushed p (max (p .height) (y + h * factor sy)) (imageEntry (p .width) 0 x y w h (factor sx) (factor sy) c m start)
+planned p (Rectangle x y w h c m) = pushed p (rectangleEntry (p .width) x y w h c m)
+planned p (Image x y w h sx sy c m start size) = pushed p (imageEntry (p .width) x y w h (factor sx) (factor sy) c m start)
 planned p (Margin m) = shifted p m
 planned p (Flip x y w h) = p
 

@@ -1,26 +1,13 @@
 // What is made of a plan at each command.
 ghost use mathlib.Core.Path.{_≡_};
-ghost use Prim.Native.Nat.{_+_, _*_, _<_, _≤_, min, max};
+ghost use Prim.Native.Nat.{_+_, _<_, _≤_, max};
 ghost use Rattle.numbers.specs.Numbers.{limit};
-ghost use Rattle.graphics.specs.Decoding.{factor};
-ghost use Rattle.job.specs.declared.commands.Command.the-variants.{Rectangle, Image};
-ghost use Rattle.plan.specs.Steps.{pushed, shifted, leftOut, planned, stepped, RoomFor, Ready};
+ghost use Rattle.plan.specs.Steps.{pushed, shifted, leftOut, stepped, RoomFor, Ready};
 use super::Plan;
-use colour::RGBA;
 use entries::Entry;
-use graphics::factor_of;
 use job::Command;
 use job::Dropped;
 use numbers::DONE;
-
-fn smaller(a: u32, b: u32) -> u32
-    ensures { λ r. ⌜ r ≡ min a b ⌝ }
-{
-    if a < b {
-        return a;
-    }
-    b
-}
 
 fn larger(a: u32, b: u32) -> u32
     ensures { λ r. ⌜ r ≡ max a b ⌝ }
@@ -31,15 +18,16 @@ fn larger(a: u32, b: u32) -> u32
     a
 }
 
-fn push(plan: Plan, height: u32, e: Entry) -> Plan
-    requires { ⌜ plan .count < 64 ⌝ }
-    ensures { λ r. ⌜ r ≡ pushed plan height e ⌝ }
+// One entry more, and a plan as high as it needs.
+fn push(plan: Plan, e: Entry) -> Plan
+    requires { ⌜ (plan .count < 64) × (e .y + e .h ≤ limit) ⌝ }
+    ensures { λ r. ⌜ r ≡ pushed plan e ⌝ }
 {
     let mut p = plan;
     let n = p.count;
     p.entries[n] = e;
     p.count = n + 1;
-    p.height = height;
+    p.height = larger(p.height, e.y + e.h);
     p
 }
 
@@ -72,66 +60,6 @@ fn shift(plan: Plan, m: u32) -> Plan
     p
 }
 
-fn plan_rectangle(p: Plan, x: u32, y: u32, w: u32, h: u32, color: RGBA, mode: u8) -> Plan
-    requires { ⌜ (p .count < 64) × (x < p .width) × (y + h ≤ limit) ⌝ }
-    ensures { λ r. ⌜ r ≡ planned p (Rectangle x y w h color mode) ⌝ }
-{
-    let cut = smaller(w, p.width - x);
-    let tall = larger(p.height, y + h);
-    let e = Entry {
-        kind: Entry::RECTANGLE,
-        mode,
-        stretch_x: 0,
-        stretch_y: 0,
-        color,
-        x,
-        y,
-        w: cut,
-        h,
-        original_width: 0,
-        original_height: 0,
-        start: 0,
-    };
-    push(p, tall, e)
-}
-
-fn plan_image(
-    p: Plan,
-    x: u32,
-    y: u32,
-    w: u32,
-    h: u32,
-    sx: u8,
-    sy: u8,
-    color: RGBA,
-    mode: u8,
-    start: usize,
-    size: usize,
-) -> Plan
-    requires { ⌜ (p .count < 64) × (x < p .width) × (w * factor sx ≤ limit) × (y + h * factor sy ≤ limit) ⌝ }
-    ensures { λ r. ⌜ r ≡ planned p (Image x y w h sx sy color mode start size) ⌝ }
-{
-    let fx = factor_of(sx);
-    let fy = factor_of(sy);
-    let cut = smaller(w * fx, p.width - x);
-    let tall = larger(p.height, y + h * fy);
-    let e = Entry {
-        kind: Entry::IMAGE,
-        mode,
-        stretch_x: fx as u8,
-        stretch_y: fy as u8,
-        color,
-        x,
-        y,
-        w: cut,
-        h: h * fy,
-        original_width: w,
-        original_height: h,
-        start,
-    };
-    push(p, tall, e)
-}
-
 pub(crate) fn step(p: Plan, k: u32, c: Command) -> Plan
     requires { ⌜ Ready p ⌝ }
     ensures { λ r. ⌜ r ≡ stepped p k c ⌝ }
@@ -148,7 +76,10 @@ pub(crate) fn step(p: Plan, k: u32, c: Command) -> Plan
             h,
             color,
             mode,
-        } => plan_rectangle(p, x, y, w, h, color, mode),
+        } => {
+            let e = Entry::rectangle(p.width, x, y, w, h, color, mode);
+            push(p, e)
+        }
         Command::Image {
             x,
             y,
@@ -159,20 +90,22 @@ pub(crate) fn step(p: Plan, k: u32, c: Command) -> Plan
             color,
             mode,
             start,
-            size,
-        } => plan_image(
-            p,
-            x,
-            y,
-            w,
-            h,
-            stretch_x,
-            stretch_y,
-            color,
-            mode,
-            start,
-            size,
-        ),
+            size: _,
+        } => {
+            let e = Entry::image(
+                p.width,
+                x,
+                y,
+                w,
+                h,
+                stretch_x,
+                stretch_y,
+                color,
+                mode,
+                start,
+            );
+            push(p, e)
+        }
         Command::Margin(m) => shift(p, m),
         Command::Flip {
             x: _,

@@ -1,6 +1,6 @@
 -- `plan::fresh` meets its contract. Assumes nothing.
 use mathlib.Core.Path.{refl}
-use Rattle.plan.specs.Plan.{padded}
+use Rattle.job.specs.Dropping.{padded}
 use borrow.Author.Needs.{needs}
 use Rattle.plan.proofs.fresh.Statement.{statement}
 use Rattle.plan.proofs.fresh.Tie as tie

@@ -2,16 +2,17 @@
 use native.Mathlib.Omega.{arith}
 use Rattle.job.proofs.Reasons.{rectangle-kept, stretched-kept, margin-kept}
 use Rattle.plan.specs.Steps.{planned}
-use Rattle.plan.proofs.Answers.{step-out, step-in, step-flip, kept-of}
+use Rattle.plan.proofs.Answers.{rectangle-planned, rectangle-end, image-planned, image-end, step-out, step-in, step-flip, kept-of}
 use borrow.Author.Needs.{needs}
 use Rattle.plan.proofs.steps.step.Statement.{statement}
 use Rattle.plan.proofs.steps.step.Tie as tie
 use Rattle.plan.proofs.steps.step.Reads as reads
 use Rattle.plan.proofs.steps.step.Lts as lts
+use Rattle.entries.proofs.Entry.image.Reads as image-reads
+use Rattle.entries.proofs.Entry.rectangle.Reads as rectangle-reads
 use Rattle.job.proofs.command_refusal.Reads as command-refusal-reads
 use Rattle.plan.proofs.steps.leave_out.Reads as leave-out-reads
-use Rattle.plan.proofs.steps.plan_image.Reads as plan-image-reads
-use Rattle.plan.proofs.steps.plan_rectangle.Reads as plan-rectangle-reads
+use Rattle.plan.proofs.steps.push.Reads as push-reads
 use Rattle.plan.proofs.steps.shift.Reads as shift-reads
 
 command-refusal-requires : tie.Need-command-refusal-requires
@@ -26,14 +27,20 @@ returns c = step-out _ _ _ (c .before .before .command-refusal .ensures) (c .bef
 enum-known-c : tie.Need-enum-known-c
 enum-known-c c = search needs
 
-plan-rectangle-requires : tie.Need-plan-rectangle-requires
-plan-rectangle-requires c κs = let f = rectangle-kept _ _ (kept-of (c .before .before .before .before .before .args .p) 0 _ (c .before .before .before .before .command-refusal .ensures) (c .before .before .before .if1 .left)) (c .before .c .given .1) in omega (arith, f .on, f .fits)
+rectangle-requires : tie.Need-rectangle-requires
+rectangle-requires c κs = let f = rectangle-kept _ _ (kept-of (c .before .before .before .before .before .args .p) 0 _ (c .before .before .before .before .command-refusal .ensures) (c .before .before .before .if1 .left)) (c .before .c .given .1) in omega (arith, f .on)
+
+push-requires : tie.Need-push-requires
+push-requires c κs = let f = rectangle-kept _ _ (kept-of (c .before .before .before .before .before .before .args .p) 0 _ (c .before .before .before .before .before .command-refusal .ensures) (c .before .before .before .before .if1 .left)) (c .before .before .c .given .1) in (c .before .before .before .before .before .before .pre .entry, rectangle-end _ _ _ _ _ _ _ (c .rectangle .ensures) (omega (arith, f .fits)))
 
 enum-known-c-2 : tie.Need-enum-known-c-2
 enum-known-c-2 c = search needs
 
-plan-image-requires : tie.Need-plan-image-requires
-plan-image-requires c κs = let f = stretched-kept _ _ (kept-of (c .before .before .before .before .before .args .p) 0 _ (c .before .before .before .before .command-refusal .ensures) (c .before .before .before .if1 .left)) (c .before .c2 .given .1) .put in omega (arith, f .on, f .wide, f .fits)
+image-requires : tie.Need-image-requires
+image-requires c κs = let f = stretched-kept _ _ (kept-of (c .before .before .before .before .before .args .p) 0 _ (c .before .before .before .before .command-refusal .ensures) (c .before .before .before .if1 .left)) (c .before .c2 .given .1) .put in omega (arith, f .on, f .wide, f .fits)
+
+push-requires-2 : tie.Need-push-requires-2
+push-requires-2 c κs = let f = stretched-kept _ _ (kept-of (c .before .before .before .before .before .before .args .p) 0 _ (c .before .before .before .before .before .command-refusal .ensures) (c .before .before .before .before .if1 .left)) (c .before .before .c2 .given .1) .put in (c .before .before .before .before .before .before .pre .entry, image-end _ _ _ _ _ _ _ _ _ _ (c .image .ensures) (omega (arith, f .fits)))
 
 enum-known-c-3 : tie.Need-enum-known-c-3
 enum-known-c-3 c = search needs
@@ -45,10 +52,10 @@ enum-told : tie.Need-enum-told
 enum-told c = search needs
 
 returns-2 : tie.Need-returns-2
-returns-2 c = step-in _ _ _ (c .before .before .before .before .before .command-refusal .ensures) (c .before .before .before .before .if1 .left) (c .before .before .c .given .1) (c .plan-rectangle .ensures)
+returns-2 c = step-in _ _ _ (c .before .before .before .before .before .before .command-refusal .ensures) (c .before .before .before .before .before .if1 .left) (c .before .before .before .c .given .1) (rectangle-planned _ (c .push .ensures) _ _ _ _ _ _ (c .before .rectangle .ensures))
 
 returns-3 : tie.Need-returns-3
-returns-3 c = step-in _ _ _ (c .before .before .before .before .before .command-refusal .ensures) (c .before .before .before .before .if1 .left) (c .before .before .c2 .given .1) (c .plan-image .ensures)
+returns-3 c = step-in _ _ _ (c .before .before .before .before .before .before .command-refusal .ensures) (c .before .before .before .before .before .if1 .left) (c .before .before .before .c2 .given .1) (image-planned _ (c .push2 .ensures) _ _ _ _ _ _ _ _ _ _ (c .before .image .ensures))
 
 returns-4 : tie.Need-returns-4
 unfolding planned
@@ -65,9 +72,11 @@ step-spec =
     leave-out-requires
     returns
     enum-known-c
-    plan-rectangle-requires
+    rectangle-requires
+    push-requires
     enum-known-c-2
-    plan-image-requires
+    image-requires
+    push-requires-2
     enum-known-c-3
     shift-requires
     enum-told
