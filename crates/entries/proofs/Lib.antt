@@ -1,4 +1,5 @@
 mod Made
+pub mod Good
 mod Tests
 mod Images
 mod Drawing
