@@ -10,6 +10,7 @@ use lib.Seq.{set-append-seam, append-snoc}
 use Rattle.numbers.specs.Numbers.{limit, done}
 use Rattle.colour.specs.Choice.{if_then_else_}
 use Rattle.job.specs.declared.commands.Command.{Command}
+use Rattle.job.specs.declared.commands.Command.the-variants.{Rectangle, Image, Margin, Flip}
 use Rattle.job.specs.Dropping.{mostCommands, refusal, grown, kept, next, heightFrom, keptFrom, droppedFrom, padded}
 use Rattle.job.proofs.Reasons.{grown-fits}
 
@@ -63,6 +64,23 @@ pub keeps-fits : {W H H' : ℕ} {cs ks : List Command} → Keeps W H cs ks H' �
 keeps-fits none h = h
 keeps-fits {W} {H} (keep {c = c} e r) h = keeps-fits r (grown-fits W H c e)
 keeps-fits (drop r) h = keeps-fits r h
+
+-- ---- heights only grow
+
+grown-more : (H : ℕ) (c : Command) → H ≤ grown H c
+unfolding grown
+grown-more H (Rectangle x y w h c mode) = omega arith
+grown-more H (Image x y w h sx sy c mode start size) = omega arith
+grown-more H (Margin m) = omega arith
+grown-more H (Flip x y w h) = omega arith
+
+pub keeps-more : {W H H' : ℕ} {cs ks : List Command} → Keeps W H cs ks H' → H ≤ H'
+keeps-more none = omega arith
+keeps-more {H = H} (keep {c = c} e r) = omega (arith, grown-more H c, keeps-more r)
+keeps-more (drop r) = keeps-more r
+
+pub height-more : (W H : ℕ) (cs : List Command) → H ≤ heightFrom W H cs
+height-more W H cs = keeps-more (keeps W H cs)
 
 -- ---- a list in a record, one more
 

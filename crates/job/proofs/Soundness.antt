@@ -128,31 +128,42 @@ module _ (s : List ℕ) (kind at n : ℕ) where
 abbrev pub Bytes : List ℕ → Type 0
 Bytes s = (i : ℕ) → byteAt s i ≤ 255
 
-pub data Sane (s : List ℕ) : Command → Type 0 where
-  sane-rectangle : {x y w h : ℕ} {c : RGBA} {mode : ℕ} → mode ≤ 1 → Sane s (Rectangle x y w h c mode)
-  sane-image : {x y w h sx sy : ℕ} {c : RGBA} {mode start size : ℕ} → mode ≤ 1 → sx ≤ 255 → sy ≤ 255 → start + size ≤ length s → Sane s (Image x y w h sx sy c mode start size)
-  sane-margin : {m : ℕ} → Sane s (Margin m)
-  sane-flip : {x y w h : ℕ} → Sane s (Flip x y w h)
+-- P says what a stretch is
+pub data SaneBy (P : ℕ → Type 0) (s : List ℕ) : Command → Type 0 where
+  sane-rectangle : {x y w h : ℕ} {c : RGBA} {mode : ℕ} → mode ≤ 1 → SaneBy P s (Rectangle x y w h c mode)
+  sane-image : {x y w h sx sy : ℕ} {c : RGBA} {mode start size : ℕ} → mode ≤ 1 → P sx → P sy → start + size ≤ length s → SaneBy P s (Image x y w h sx sy c mode start size)
+  sane-margin : {m : ℕ} → SaneBy P s (Margin m)
+  sane-flip : {x y w h : ℕ} → SaneBy P s (Flip x y w h)
+
+abbrev pub Sane : List ℕ → Command → Type 0
+Sane s c = SaneBy (λ n. n ≤ 255) s c
+
+-- nothing is asked of a stretch
+abbrev pub Held : List ℕ → Command → Type 0
+Held s c = SaneBy (λ n. n ≡ n) s c
 
 pub data AllSane (s : List ℕ) : List Command → Type 0 where
   sane-none : AllSane s []
   sane-more : {c : Command} {cs : List Command} → Sane s c → AllSane s cs → AllSane s (c ∷ cs)
 
-sane-by : (s : List ℕ) (kind at n : ℕ) (k2 k3 k4 : Bool) → Bytes s → at + n ≤ length s
+sane-by : (P : ℕ → Type 0) (s : List ℕ) (kind at n : ℕ) (k2 k3 k4 : Bool) → ((i : ℕ) → P (byteAt s i)) → at + n ≤ length s
     → (if k2 then eqb n rectangleSize && soundMode (byteAt s (at + 20)) else if k3 then leb imageSize n && soundMode (byteAt s (at + 22)) else if k4 then eqb n marginSize else eqb kind flipKind && eqb n flipSize) ≡ true
-    → Sane s (if k2 then rectangleAt s at else if k3 then imageAt s at n else if k4 then Margin (le32 s at) else flipAt s at)
-sane-by s kind at n true k3 k4 b f e = sane-rectangle (leb-true _ _ (and-both (eqb n rectangleSize) (soundMode (byteAt s (at + 20))) e .1))
-sane-by s kind at n false true k4 b f e =
+    → SaneBy P s (if k2 then rectangleAt s at else if k3 then imageAt s at n else if k4 then Margin (le32 s at) else flipAt s at)
+sane-by P s kind at n true k3 k4 b f e = sane-rectangle (leb-true _ _ (and-both (eqb n rectangleSize) (soundMode (byteAt s (at + 20))) e .1))
+sane-by P s kind at n false true k4 b f e =
     let g = and-both (leb imageSize n) (soundMode (byteAt s (at + 22))) e in
     let l : imageSize ≤ n = leb-true _ _ (g .0) in
     let room : at + imageSize + (n - imageSize) ≤ length s = omega arith in
     sane-image (leb-true _ _ (g .1)) (b (at + 16)) (b (at + 17)) room
-sane-by s kind at n false false true b f e = sane-margin
-sane-by s kind at n false false false b f e = sane-flip
+sane-by P s kind at n false false true b f e = sane-margin
+sane-by P s kind at n false false false b f e = sane-flip
 
-pub sane : (s : List ℕ) (kind at n : ℕ) → Bytes s → at + n ≤ length s → soundCommand s kind at n ≡ true → Sane s (commandAt s kind at n)
+pub sane : (P : ℕ → Type 0) (s : List ℕ) (kind at n : ℕ) → ((i : ℕ) → P (byteAt s i)) → at + n ≤ length s → soundCommand s kind at n ≡ true → SaneBy P s (commandAt s kind at n)
 unfolding soundCommand commandAt
-sane s kind at n b f e = sane-by s kind at n (eqb kind rectangleKind) (eqb kind imageKind) (eqb kind marginKind) b f e
+sane P s kind at n b f e = sane-by P s kind at n (eqb kind rectangleKind) (eqb kind imageKind) (eqb kind marginKind) b f e
+
+pub held : (s : List ℕ) (kind at n : ℕ) → at + n ≤ length s → soundCommand s kind at n ≡ true → Held s (commandAt s kind at n)
+held s kind at n f e = sane (λ n. n ≡ n) s kind at n (λ i. refl) f e
 
 pub all-sane : (s : List ℕ) {rs : Records} → Bytes s → Inside (length s) rs → soundCommands s rs ≡ true → AllSane s (commandsIn s rs)
 unfolding soundCommands commandsIn
@@ -160,4 +171,4 @@ all-sane s b in-ended e = sane-none
 all-sane s b in-broken e = sane-none
 all-sane s b (in-rec {k} {st} {size} {rest} f r) e =
     let g = and-both (soundCommand s k st size) (soundCommands s rest) e in
-    sane-more (sane s k st size b f (g .0)) (all-sane s b r (g .1))
+    sane-more (sane (λ n. n ≤ 255) s k st size b f (g .0)) (all-sane s b r (g .1))

@@ -1,0 +1,5 @@
+pub mod Pictures
+mod Canvas
+mod Going
+mod Answers
+mod Unique

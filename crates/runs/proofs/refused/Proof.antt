@@ -1,0 +1,14 @@
+-- `runs::refused` meets its contract. Assumes nothing.
+use mathlib.Core.Path.{refl}
+use Rattle.job.specs.Dropping.{padded}
+use Rattle.runs.proofs.refused.Statement.{statement}
+use Rattle.runs.proofs.refused.Tie as tie
+use Rattle.runs.proofs.refused.Reads as reads
+use Rattle.runs.proofs.refused.Lts as lts
+
+returns : tie.Need-returns
+unfolding padded
+returns c = refl
+
+pub refused-spec : {M : Type 1} → statement M
+refused-spec = tie.close (tie.spec returns)

@@ -1,0 +1,32 @@
+-- `runs::survey::look_at` meets its contract. Assumes nothing.
+use Rattle.job.proofs.Reasons.{grown-fits}
+use mathlib.Core.Path.{sym, _∙_}
+use Rattle.runs.proofs.Answers.{seen-out, seen-in}
+use borrow.Author.Needs.{needs}
+use Rattle.runs.proofs.survey.look_at.Statement.{statement}
+use Rattle.runs.proofs.survey.look_at.Tie as tie
+use Rattle.runs.proofs.survey.look_at.Reads as reads
+use Rattle.runs.proofs.survey.look_at.Lts as lts
+use Rattle.job.proofs.command_refusal.Reads as command-refusal-reads
+use Rattle.job.proofs.height_after.Reads as height-after-reads
+use Rattle.runs.proofs.survey.leave_out.Reads as leave-out-reads
+
+command-refusal-requires : tie.Need-command-refusal-requires
+command-refusal-requires c κs = search needs
+
+leave-out-requires : tie.Need-leave-out-requires
+leave-out-requires c κs = search needs
+
+returns : tie.Need-returns
+returns c = seen-out _ _ _ _ (c .before .before .command-refusal .ensures) (c .before .if1 .taken) (c .leave-out .ensures)
+
+height-after-requires : tie.Need-height-after-requires
+height-after-requires c κs = grown-fits _ _ _ (sym (c .before .command-refusal .ensures) ∙ c .if1 .left)
+
+returns-2 : tie.Need-returns-2
+returns-2 c = seen-in _ _ _ _ (c .before .before .command-refusal .ensures) (c .before .if1 .left) (c .height-after .ensures)
+
+pub look-at-spec : {M : Type 1} → statement M
+look-at-spec =
+    tie.close
+    (tie.spec command-refusal-requires leave-out-requires returns height-after-requires returns-2)

@@ -1,0 +1,14 @@
+-- `runs::survey::nothing` meets its contract. Assumes nothing.
+use mathlib.Core.Path.{refl}
+use Rattle.job.specs.Dropping.{padded}
+use Rattle.runs.proofs.survey.nothing.Statement.{statement}
+use Rattle.runs.proofs.survey.nothing.Tie as tie
+use Rattle.runs.proofs.survey.nothing.Reads as reads
+use Rattle.runs.proofs.survey.nothing.Lts as lts
+
+returns : tie.Need-returns
+unfolding padded
+returns c = refl
+
+pub nothing-spec : {M : Type 1} → statement M
+nothing-spec = tie.close (tie.spec returns)
