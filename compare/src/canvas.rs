@@ -4,7 +4,7 @@
 mod border;
 mod space;
 
-use crate::boundary::canvas::{call, Answer};
+use crate::library::canvas::{call, Answer};
 use crate::report::{Entry, Progress, Report};
 use oracle::canvas::cases::{Case, Class, Step};
 use oracle::canvas::{self, Canvas, Operation, Record};

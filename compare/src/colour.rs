@@ -1,6 +1,6 @@
 //! Colours: blending, multiplying, alphas and colour numbers.
 
-use crate::boundary;
+use crate::library;
 use crate::report::{Operation, Progress, Report};
 use oracle::colour::{self, hex};
 use oracle::random::Random;
@@ -23,7 +23,7 @@ fn with_alpha(report: &mut Report, random: &mut Random) {
         for alpha in 0..=255 {
             operation.case(
                 colour::with_alpha(color, alpha).as_ref(),
-                &boundary::with_alpha(color, alpha),
+                &library::with_alpha(color, alpha),
                 |rust, ours| {
                     answers(
                         format!("color {}, alpha {alpha:02x}", hex(color)),
@@ -45,7 +45,7 @@ fn color_for_number(report: &mut Report, random: &mut Random) {
         for number in 0..=255 {
             operation.case(
                 colour::color_for_number(colors, number).as_ref(),
-                &boundary::color_for_number(colors, number),
+                &library::color_for_number(colors, number),
                 |rust, ours| {
                     let colors = colors.map(hex).join(" ");
                     answers(format!("colors {colors}, number {number:02x}"), rust, ours)
@@ -66,7 +66,7 @@ fn blend_foreground_with_alpha(report: &mut Report, random: &mut Random) {
             let color = u32::from_le_bytes([r, g, b, own]);
             operation.case(
                 colour::blend_foreground_with_alpha(dot, color, alpha).as_ref(),
-                &boundary::blend_foreground_with_alpha(dot, color, alpha),
+                &library::blend_foreground_with_alpha(dot, color, alpha),
                 |rust, ours| {
                     let input =
                         format!("dot {}, color {}, alpha {alpha:02x}", hex(dot), hex(color));
@@ -91,16 +91,16 @@ const BLEND: Work = Work {
     name: "blend_foreground",
     name_of_run: "blend_dots",
     rust: colour::blend_foreground,
-    dot: boundary::blend_foreground,
-    run: boundary::blend_dots,
+    dot: library::blend_foreground,
+    run: library::blend_dots,
 };
 
 const MULTIPLY: Work = Work {
     name: "multiply_foreground",
     name_of_run: "multiply_dots",
     rust: colour::multiply_foreground,
-    dot: boundary::multiply_foreground,
-    run: boundary::multiply_dots,
+    dot: library::multiply_foreground,
+    run: library::multiply_dots,
 };
 
 /// Every old value s, colour value c and alpha a, in each of r, g and b, dot by dot and over

@@ -2,13 +2,14 @@
 
 mod cases;
 
-use crate::boundary::{self, Decoded};
+use crate::library;
 use crate::report::{Entry, Progress, Report};
 use cases::Case;
 use oracle::colour::hex;
 use oracle::decoders::{decode, Answer, Input, Kind};
 use oracle::random::Random;
 use oracle::rules::{self, DONE, NO_ROOM, TOO_LARGE, WRONG_LENGTH};
+use thermal::lent::Decoded;
 
 /// Images of more dots that are refused are not asked of the original, which would take gigabytes
 /// for some.
@@ -67,7 +68,7 @@ impl Judge<'_> {
         let before = &self.noise[..start + case.lent + BESIDE];
         let mut memory = before.to_vec();
         let data = case.input.data.clone();
-        let ours = boundary::decode(&case.input, &mut memory[start..start + case.lent]);
+        let ours = library::decode(&case.input, &mut memory[start..start + case.lent]);
 
         let outside = due == NO_ROOM || !matches!(rust, Rust::Answers(_));
         let difference = match expected(due, &case, &rust) {

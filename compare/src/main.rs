@@ -1,10 +1,10 @@
 //! Compares this project's static library with the original, or measures both.
 
 mod bench;
-mod boundary;
 mod canvas;
 mod colour;
 mod decoders;
+mod library;
 mod report;
 
 use std::process::ExitCode;

@@ -2,7 +2,7 @@
 //! its work, this library works in two lent buffers.
 
 use super::{print, time, Row, ROUNDS};
-use crate::boundary::canvas::{call, Answer};
+use crate::library::canvas::{call, Answer};
 use oracle::canvas::{self, Area, Canvas, Operation, Record, Turn};
 use oracle::random::Random;
 use oracle::rules::DONE;

@@ -1,7 +1,7 @@
 //! Blending and multiplying one colour onto many dots.
 
 use super::{print, time, Row, ROUNDS};
-use crate::boundary;
+use crate::library;
 use oracle::colour::{number, rgba};
 use oracle::random::Random;
 use oracle::thermal_parser::graphics::RGBA;
@@ -21,25 +21,25 @@ const WORKS: [Work; 4] = [
         name: "blend, translucent (alpha 128)",
         alpha: 128,
         rust: blend,
-        ours: boundary::blend_dots,
+        ours: library::blend_dots,
     },
     Work {
         name: "blend, opaque (alpha 255)",
         alpha: 255,
         rust: blend,
-        ours: boundary::blend_dots,
+        ours: library::blend_dots,
     },
     Work {
         name: "multiply, opaque (alpha 255)",
         alpha: 255,
         rust: multiply,
-        ours: boundary::multiply_dots,
+        ours: library::multiply_dots,
     },
     Work {
         name: "multiply, translucent (alpha 128)",
         alpha: 128,
         rust: multiply,
-        ours: boundary::multiply_dots,
+        ours: library::multiply_dots,
     },
 ];
 

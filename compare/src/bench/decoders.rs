@@ -2,13 +2,14 @@
 //! anew in each call; this library writes to one buffer.
 
 use super::{print, time, Row, ROUNDS};
-use crate::boundary;
+use crate::library;
 use oracle::decoders::{command, dots, Input, Kind};
 use oracle::random::Random;
 use oracle::rules;
 use oracle::samples::fill;
 use oracle::thermal_parser::graphics::GraphicsCommand;
 use std::hint::black_box;
+use thermal::lent::Decoded;
 
 /// The image as it is, and one that is stretched to about its size.
 const WHOLE: (u32, u32, u8) = (576, 4000, 1);
@@ -47,13 +48,13 @@ pub fn measure() {
                 .push(time(|| rust = Some(command(black_box(input)))));
             let mut ours = None;
             row.ours.push(time(|| {
-                ours = Some(boundary::decode(black_box(input), &mut out));
+                ours = Some(library::decode(black_box(input), &mut out));
             }));
             if round == 0 {
                 let Some(GraphicsCommand::Image(image)) = rust else {
                     panic!("{}: the Rust gives no image", row.name);
                 };
-                let expected = boundary::Decoded {
+                let expected = Decoded {
                     number: 0,
                     w: image.w,
                     h: image.h,

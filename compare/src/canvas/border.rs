@@ -1,7 +1,7 @@
 //! Borders of pictures, which are no part of a canvas.
 
 use super::space::{Space, SHIFTS};
-use crate::boundary::drawing::draw_border;
+use crate::library::canvas::draw_border;
 use crate::report::{Entry, Progress, Report};
 use oracle::canvas;
 use oracle::canvas::cases::{color, HUGE};
