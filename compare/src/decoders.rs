@@ -1,15 +1,18 @@
 //! The three decoders, two of them both for bits and for alphas.
 
 mod cases;
+mod question;
 
 use crate::library;
-use crate::report::{Entry, Progress, Report};
+use crate::report::{Place, Report, Verdict};
 use cases::Case;
 use oracle::colour::hex;
 use oracle::decoders::{decode, Answer, Input, Kind};
 use oracle::random::Random;
 use oracle::rules::{self, DONE, NO_ROOM, TOO_LARGE, WRONG_LENGTH};
 use thermal::lent::Decoded;
+
+pub use question::read;
 
 /// Images of more dots that are refused are not asked of the original, which would take gigabytes
 /// for some.
@@ -23,17 +26,43 @@ const BESIDE: usize = 32;
 
 pub fn compare(report: &mut Report) {
     let mut random = Random::new(2);
-    let mut noise = vec![0; MOST_MEMORY];
-    noise.fill_with(|| random.u8());
+    let decoders = Decoders::new(report, &mut random);
     for kind in Kind::ALL {
-        let mut judge = Judge {
-            noise: &noise,
-            entry: Entry::new(name(kind)),
-            progress: Progress::new(name(kind)),
-        };
-        cases::of(kind, &mut random, |case| judge.case(case));
-        report.add_entry(judge.entry);
+        cases::of(kind, &mut random, |case| decoders.count(report, case));
     }
+}
+
+/// The decoders' rows.
+pub struct Decoders {
+    rows: [Place; 5],
+    noise: Vec<u8>,
+}
+
+impl Decoders {
+    pub fn new(report: &mut Report, random: &mut Random) -> Self {
+        Decoders {
+            rows: Kind::ALL.map(|kind| report.row(name(kind))),
+            noise: noise(MOST_MEMORY, random),
+        }
+    }
+
+    /// Compares a random image of a random kind.
+    pub fn any(&self, report: &mut Report, random: &mut Random) {
+        let kind = random.one_of(&Kind::ALL);
+        self.count(report, cases::any(kind, random));
+    }
+
+    fn count(&self, report: &mut Report, case: Case) {
+        let kind = Kind::ALL.iter().position(|&kind| kind == case.input.kind);
+        let verdict = judge(&case, &self.noise);
+        report.count(self.rows[kind.unwrap()], &verdict, || case);
+    }
+}
+
+fn noise(length: usize, random: &mut Random) -> Vec<u8> {
+    let mut noise = vec![0; length];
+    noise.fill_with(|| random.u8());
+    noise
 }
 
 fn name(kind: Kind) -> &'static str {
@@ -46,50 +75,43 @@ fn name(kind: Kind) -> &'static str {
     }
 }
 
-struct Judge<'a> {
-    /// What memory holds before a call.
-    noise: &'a [u8],
-    entry: Entry,
-    progress: Progress,
-}
+/// `noise` is what memory holds before the call.
+fn judge(case: &Case, noise: &[u8]) -> Verdict {
+    let due = rules::due(&case.input, case.lent);
+    let (w, h) = rules::stretched(&case.input);
+    // A size above the limit is decided before `w * h` is worked out.
+    let rust = if due == TOO_LARGE || due != DONE && w * h > MOST_DOTS {
+        Rust::NotCalled
+    } else {
+        decode(&case.input).map_or(Rust::Stops, Rust::Answers)
+    };
 
-impl Judge<'_> {
-    fn case(&mut self, case: Case) {
-        let due = rules::due(&case.input, case.lent);
-        let (w, h) = rules::stretched(&case.input);
-        // A size above the limit is decided before `w * h` is worked out.
-        let rust = if due == TOO_LARGE || due != DONE && w * h > MOST_DOTS {
-            Rust::NotCalled
-        } else {
-            decode(&case.input).map_or(Rust::Stops, Rust::Answers)
-        };
+    let start = BESIDE + case.shift;
+    let before = &noise[..start + case.lent + BESIDE];
+    let mut memory = before.to_vec();
+    let data = case.input.data.clone();
+    let ours = library::decode(&case.input, &mut memory[start..start + case.lent]);
 
-        let start = BESIDE + case.shift;
-        let before = &self.noise[..start + case.lent + BESIDE];
-        let mut memory = before.to_vec();
-        let data = case.input.data.clone();
-        let ours = library::decode(&case.input, &mut memory[start..start + case.lent]);
-
-        let outside = due == NO_ROOM || !matches!(rust, Rust::Answers(_));
-        let difference = match expected(due, &case, &rust) {
-            Ok((expected, dots)) => {
-                let mut after = before.to_vec();
-                after[start..start + dots.len()].copy_from_slice(dots);
-                if ours != expected {
-                    Some(format!("{} expected, {} given", text(expected), text(ours)))
-                } else if memory != after {
-                    Some(first_difference(&memory, &after, start, case.lent, dots))
-                } else if case.input.data != data {
-                    Some("the data changes".into())
-                } else {
-                    None
-                }
+    let difference = match expected(due, case, &rust) {
+        Ok((expected, dots)) => {
+            let mut after = before.to_vec();
+            after[start..start + dots.len()].copy_from_slice(dots);
+            if ours != expected {
+                Some(format!("{} expected, {} given", text(expected), text(ours)))
+            } else if memory != after {
+                Some(first_difference(&memory, &after, start, case.lent, dots))
+            } else if case.input.data != data {
+                Some("the data changes".into())
+            } else {
+                None
             }
-            Err(why) => Some(why),
-        };
-        let difference = difference.map(|what| format!("{}: {what}", describe(&case)));
-        self.entry.case(due, outside, difference);
-        self.progress.add(1);
+        }
+        Err(why) => Some(why),
+    };
+    Verdict {
+        due,
+        outside: due == NO_ROOM || !matches!(rust, Rust::Answers(_)),
+        difference,
     }
 }
 
@@ -170,31 +192,5 @@ fn first_difference(memory: &[u8], after: &[u8], start: usize, lent: usize, dots
         at / 4,
         dot_of(after),
         dot_of(memory)
-    )
-}
-
-fn describe(case: &Case) -> String {
-    let Input {
-        width,
-        height,
-        stretch: (x, y),
-        num_colors,
-        colors,
-        ref data,
-        ..
-    } = case.input;
-    let colors = if case.input.kind.has_layers() {
-        format!("{num_colors} of the colors {}", colors.map(hex).join(" "))
-    } else {
-        format!("color {}", hex(colors[0]))
-    };
-    let mut shown: String = data.iter().take(40).map(|b| format!("{b:02x}")).collect();
-    if data.len() > 40 {
-        shown += "...";
-    }
-    format!(
-        "{width} x {height} by {x} x {y}, {colors}, {} bytes {shown}, {} bytes lent",
-        data.len(),
-        case.lent
     )
 }

@@ -4,26 +4,86 @@ mod bench;
 mod canvas;
 mod colour;
 mod decoders;
+mod failures;
 mod library;
+mod progress;
+mod question;
+mod replay;
 mod report;
+mod words;
 
+use oracle::random::Random;
+use progress::Progress;
+use report::Report;
 use std::process::ExitCode;
 
 fn main() -> ExitCode {
-    match std::env::args().nth(1).as_deref() {
-        Some("run") => {
-            let mut report = report::Report::default();
-            colour::compare(&mut report);
-            decoders::compare(&mut report);
-            canvas::compare(&mut report);
-            report.finish()
-        }
-        Some("bench") => {
+    let arguments: Vec<String> = std::env::args().skip(1).collect();
+    let arguments: Vec<&str> = arguments.iter().map(String::as_str).collect();
+    match arguments[..] {
+        ["run", build] => quick(build),
+        ["run", build, cases, seed] => match (cases.parse(), seed.parse()) {
+            (Ok(cases), Ok(seed)) => long(build, cases, seed),
+            _ => usage(),
+        },
+        ["replay", file] => replay(file),
+        ["bench"] => {
             bench::measure();
             ExitCode::SUCCESS
         }
-        _ => {
-            eprintln!("usage: compare run | bench");
+        _ => usage(),
+    }
+}
+
+fn usage() -> ExitCode {
+    eprintln!("usage: compare run BUILD [CASES SEED] | replay FILE | bench");
+    ExitCode::from(2)
+}
+
+/// The same cases in every run, of every operation.
+fn quick(build: &str) -> ExitCode {
+    let mut report = Report::new(build, Progress::new(build, None));
+    colour::compare(&mut report);
+    decoders::compare(&mut report);
+    canvas::compare(&mut report);
+    report.finish()
+}
+
+/// Random cases of all operations but those on single colours, of which the quick setting has
+/// nearly all inputs: histories of a canvas, and between them images and borders.
+fn long(build: &str, cases: u64, seed: u64) -> ExitCode {
+    let mut report = Report::new(build, Progress::new(build, Some(cases)));
+    let mut random = Random::new(seed);
+    let images = decoders::Decoders::new(&mut report, &mut random);
+    let mut canvases = canvas::Canvases::new(&mut report);
+    let mut borders = canvas::Borders::new(&mut report, &mut random);
+    while report.cases() < cases {
+        let before = report.cases();
+        canvases.any(cases - before, &mut report, &mut random);
+        // Five kinds of images stand beside nineteen operations, and one of borders.
+        let calls = report.cases() - before;
+        for _ in 0..calls.div_ceil(4).min(cases - report.cases()) {
+            images.any(&mut report, &mut random);
+        }
+        for _ in 0..calls.div_ceil(20).min(cases - report.cases()) {
+            borders.any(&mut report, &mut random);
+        }
+    }
+    report.finish()
+}
+
+fn replay(file: &str) -> ExitCode {
+    match replay::replay(file) {
+        Ok(None) => {
+            println!("no difference");
+            ExitCode::SUCCESS
+        }
+        Ok(Some(difference)) => {
+            println!("differs: {difference}");
+            ExitCode::FAILURE
+        }
+        Err(why) => {
+            println!("{why}");
             ExitCode::from(2)
         }
     }

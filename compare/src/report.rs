@@ -1,7 +1,9 @@
 //! Counts of what was compared.
 
+use crate::failures;
+use crate::progress::Progress;
+use crate::question::Question;
 use std::process::ExitCode;
-use std::time::{Duration, Instant};
 
 /// Differences of one operation that are printed; the rest are counted.
 const PRINTED: u64 = 5;
@@ -9,97 +11,100 @@ const PRINTED: u64 = 5;
 /// The scope's numbers are below this.
 const NUMBERS: usize = 17;
 
-/// One operation's cases. A case is one call of this library.
-pub struct Operation {
-    name: String,
-    cases: u64,
-    differences: u64,
+/// What is said of a case, which is one call of this library.
+pub struct Verdict {
+    /// The number that the scope asks for.
+    pub due: u8,
+    /// Whether the original has no answer to compare with. The scope still has one, so that the case
+    /// passes or fails too.
+    pub outside: bool,
+    pub difference: Option<String>,
 }
 
-impl Operation {
-    pub fn new(name: impl Into<String>) -> Self {
-        Operation {
-            name: name.into(),
-            cases: 0,
-            differences: 0,
-        }
-    }
-
-    /// Counts a case. `rust` is nothing where the original stops, which no answer is the same as.
-    pub fn case<T: PartialEq + ?Sized>(
-        &mut self,
-        rust: Option<&T>,
-        ours: &T,
-        describe: impl FnOnce(Option<&T>, &T) -> String,
-    ) {
-        self.cases += 1;
-        if rust != Some(ours) {
-            self.differences += 1;
-            if self.differences <= PRINTED {
-                println!("{} differs: {}", self.name, describe(rust, ours));
-            }
+impl Verdict {
+    /// Of an operation that refuses nothing.
+    pub fn done(difference: Option<String>) -> Self {
+        Verdict {
+            due: 0,
+            outside: false,
+            difference,
         }
     }
 }
 
-/// The cases of an operation that answers one of the scope's numbers. Where the original has no
-/// answer the scope still has, so that a case outside its domain passes or fails too.
-pub struct Entry {
+/// The cases of one operation.
+struct Row {
     name: String,
     cases: u64,
     /// How often each number was due.
     numbers: [u64; NUMBERS],
-    differences: u64,
     outside: u64,
+    differences: u64,
 }
 
-impl Entry {
-    pub fn new(name: impl Into<String>) -> Self {
-        Entry {
-            name: name.into(),
-            cases: 0,
-            numbers: [0; NUMBERS],
-            differences: 0,
-            outside: 0,
-        }
-    }
+/// A row's place.
+#[derive(Clone, Copy)]
+pub struct Place(usize);
 
-    pub fn case(&mut self, due: u8, outside: bool, difference: Option<String>) {
-        self.cases += 1;
-        self.numbers[usize::from(due)] += 1;
-        self.outside += u64::from(outside);
-        if let Some(difference) = difference {
-            self.differences += 1;
-            if self.differences <= PRINTED {
-                println!("{} differs: {difference}", self.name);
-            }
-        }
-    }
-}
-
-#[derive(Default)]
 pub struct Report {
-    operations: Vec<Operation>,
-    entries: Vec<Entry>,
+    build: String,
+    rows: Vec<Row>,
+    progress: Progress,
 }
 
 impl Report {
-    pub fn add(&mut self, operation: Operation) {
-        self.operations.push(operation);
+    pub fn new(build: &str, progress: Progress) -> Self {
+        Report {
+            build: build.into(),
+            rows: Vec::new(),
+            progress,
+        }
     }
 
-    pub fn add_entry(&mut self, entry: Entry) {
-        self.entries.push(entry);
+    /// Adds a row, which has to have cases in the end.
+    pub fn row(&mut self, name: impl Into<String>) -> Place {
+        self.rows.push(Row {
+            name: name.into(),
+            cases: 0,
+            numbers: [0; NUMBERS],
+            outside: 0,
+            differences: 0,
+        });
+        Place(self.rows.len() - 1)
+    }
+
+    /// Counts a case. The first question of a row whose answers differ is made smaller and written.
+    pub fn count<Q: Question>(
+        &mut self,
+        place: Place,
+        verdict: &Verdict,
+        question: impl FnOnce() -> Q,
+    ) {
+        let row = &mut self.rows[place.0];
+        row.cases += 1;
+        row.numbers[usize::from(verdict.due)] += 1;
+        row.outside += u64::from(verdict.outside);
+        if let Some(difference) = &verdict.difference {
+            row.differences += 1;
+            if row.differences <= PRINTED {
+                println!("{} differs: {difference}", row.name);
+            }
+            if row.differences == 1 {
+                failures::write(&row.name, &self.build, question());
+            }
+        }
+        self.progress.add(verdict.difference.is_some());
+    }
+
+    /// How many cases were counted.
+    pub fn cases(&self) -> u64 {
+        self.rows.iter().map(|row| row.cases).sum()
     }
 
     /// Prints the counts, and gives success exactly if there are cases and nothing differs.
     pub fn finish(self) -> ExitCode {
-        println!("{:<44} {:>10} {:>12}", "operation", "cases", "differences");
-        for o in &self.operations {
-            println!("{:<44} {:>10} {:>12}", o.name, o.cases, o.differences);
-        }
-        self.print_entries();
-        let (passed, failed) = self.count();
+        self.print();
+        let (passed, failed) = self.passed_and_failed();
         println!("{passed} passed, {failed} failed");
         if failed == 0 {
             ExitCode::SUCCESS
@@ -108,20 +113,16 @@ impl Report {
         }
     }
 
-    /// How many cases passed and failed. What should have had cases and has none failed too, once.
-    fn count(&self) -> (u64, u64) {
-        let operations = self.operations.iter();
-        let operations = operations.map(|o| (&o.name, o.cases, o.differences));
-        let entries = self.entries.iter();
-        let entries = entries.map(|e| (&e.name, e.cases, e.differences));
+    /// What should have had cases and has none failed too, once.
+    fn passed_and_failed(&self) -> (u64, u64) {
         let (mut passed, mut failed) = (0, 0);
-        for (name, cases, differences) in operations.chain(entries) {
-            if cases == 0 {
-                println!("{name} has no case");
+        for row in &self.rows {
+            if row.cases == 0 {
+                println!("{} has no case", row.name);
                 failed += 1;
             }
-            passed += cases - differences;
-            failed += differences;
+            passed += row.cases - row.differences;
+            failed += row.differences;
         }
         if passed == 0 && failed == 0 {
             println!("nothing was compared");
@@ -130,11 +131,10 @@ impl Report {
         (passed, failed)
     }
 
-    /// A column for each number that was due anywhere.
-    fn print_entries(&self) {
-        let used: Vec<usize> = (0..NUMBERS)
-            .filter(|&number| self.entries.iter().any(|e| e.numbers[number] > 0))
-            .collect();
+    /// A line for each operation, and a column for each number that was due anywhere.
+    fn print(&self) {
+        let due = |n: usize| self.rows.iter().any(|row| row.numbers[n] > 0);
+        let used: Vec<usize> = (0..NUMBERS).filter(|&n| due(n)).collect();
         let numbers = |text: &dyn Fn(usize) -> String| -> String {
             used.iter().map(|&n| format!(" {:>8}", text(n))).collect()
         };
@@ -143,44 +143,15 @@ impl Report {
             _ => format!("no. {number}"),
         });
         println!(
-            "{:<44} {:>10} {:>12} {:>8}{head}",
-            "entry", "cases", "differences", "outside"
+            "{:<44} {:>8}{head} {:>8} {:>11}",
+            "operation", "cases", "outside", "differences"
         );
-        for e in &self.entries {
-            let counts = numbers(&|number| e.numbers[number].to_string());
+        for row in &self.rows {
+            let counts = numbers(&|number| row.numbers[number].to_string());
             println!(
-                "{:<44} {:>10} {:>12} {:>8}{counts}",
-                e.name, e.cases, e.differences, e.outside
+                "{:<44} {:>8}{counts} {:>8} {:>11}",
+                row.name, row.cases, row.outside, row.differences
             );
-        }
-    }
-}
-
-/// Says on standard error, about once a second, how far long work is.
-pub struct Progress {
-    name: String,
-    done: u64,
-    started: Instant,
-    said: Instant,
-}
-
-impl Progress {
-    pub fn new(name: impl Into<String>) -> Self {
-        let now = Instant::now();
-        Progress {
-            name: name.into(),
-            done: 0,
-            started: now,
-            said: now,
-        }
-    }
-
-    pub fn add(&mut self, done: u64) {
-        self.done += done;
-        if self.said.elapsed() >= Duration::from_secs(1) {
-            self.said = Instant::now();
-            let rate = self.done as f64 / self.started.elapsed().as_secs_f64();
-            eprintln!("  {}: {} done, {rate:.0} a second", self.name, self.done);
         }
     }
 }

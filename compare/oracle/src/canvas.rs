@@ -276,8 +276,10 @@ fn pixel(dot: &[u8]) -> RGBA {
 }
 
 pub fn pixels_of(bytes: &[u8]) -> Vec<RGBA> {
-    assert!(bytes.len() % 4 == 0, "the original has no part of a pixel");
-    bytes.chunks_exact(4).map(pixel).collect()
+    let dots = bytes.chunks_exact(4);
+    let rest = dots.remainder();
+    assert!(rest.is_empty(), "the original has no part of a pixel");
+    dots.map(pixel).collect()
 }
 
 fn bytes(dots: &[RGBA]) -> Vec<u8> {

@@ -6,6 +6,7 @@ use oracle::random::Random;
 use oracle::rules;
 use oracle::samples::{fill, near_lengths};
 
+#[derive(Clone)]
 pub struct Case {
     pub input: Input,
     /// The length of the output buffer.
@@ -65,6 +66,7 @@ const LARGE: [((u32, u32), (u8, u8)); 10] = [
 /// The dots of the largest of them.
 pub const LARGEST_DOTS: usize = 3 * 192 * 3 * 1_334;
 
+/// The cases of the quick setting.
 pub fn of(kind: Kind, random: &mut Random, mut each: impl FnMut(Case)) {
     for width in 0..=33 {
         for height in 0..=33 {
@@ -76,35 +78,70 @@ pub fn of(kind: Kind, random: &mut Random, mut each: impl FnMut(Case)) {
         }
     }
     for _ in 0..90_000 {
-        let sizes = (small_size(random), small_size(random));
-        let stretch = (random.below(5) as u8, random.below(5) as u8);
-        each(any_data(input(kind, sizes, stretch, random), random));
+        each(small(kind, random));
     }
     for i in 0..2_000 {
-        let size = if i % 2 == 0 { tiny_size } else { small_size };
-        let sizes = (size(random), size(random));
-        let stretch = any_stretch(random);
-        each(any_data(input(kind, sizes, stretch, random), random));
+        each(stretched(kind, i % 2 == 0, random));
     }
     for _ in 0..1_000 {
         each(any_data(thin(kind, random), random));
     }
     for stretch in 0..25 {
-        // A damaged header: it announces 2^32 dots, of which there are none.
-        let damaged = input(kind, (512, 8_388_608), (stretch / 5, stretch % 5), random);
-        each(case(damaged, 4 * random.below(100), random));
+        each(damaged(kind, (stretch / 5, stretch % 5), random));
     }
     for _ in 0..4_000 {
         each(too_large(kind, random));
     }
-    for ((width, height), stretch) in LARGE {
-        let width = match kind {
-            Kind::LayerBits => width & !7,
-            _ => width,
-        };
-        let input = input(kind, (width, height), stretch, random);
-        each(right_data(input, random));
+    for large in LARGE {
+        each(right_large(kind, large, random));
     }
+}
+
+/// Any case, as often as its like is among those of the quick setting.
+pub fn any(kind: Kind, random: &mut Random) -> Case {
+    match random.below(97_035) {
+        0..90_000 => small(kind, random),
+        90_000..92_000 => {
+            let tiny = random.below(2) == 0;
+            stretched(kind, tiny, random)
+        }
+        92_000..93_000 => any_data(thin(kind, random), random),
+        93_000..93_025 => damaged(kind, any_stretch(random), random),
+        93_025..97_025 => too_large(kind, random),
+        _ => right_large(kind, random.one_of(&LARGE), random),
+    }
+}
+
+fn small(kind: Kind, random: &mut Random) -> Case {
+    let sizes = (small_size(random), small_size(random));
+    let stretch = (random.below(5) as u8, random.below(5) as u8);
+    any_data(input(kind, sizes, stretch, random), random)
+}
+
+fn stretched(kind: Kind, tiny: bool, random: &mut Random) -> Case {
+    let size = if tiny { tiny_size } else { small_size };
+    let sizes = (size(random), size(random));
+    let stretch = any_stretch(random);
+    any_data(input(kind, sizes, stretch, random), random)
+}
+
+/// A damaged header: it announces 2^32 dots, of which there are none.
+fn damaged(kind: Kind, stretch: (u8, u8), random: &mut Random) -> Case {
+    let damaged = input(kind, (512, 8_388_608), stretch, random);
+    case(damaged, 4 * random.below(100), random)
+}
+
+fn right_large(
+    kind: Kind,
+    ((width, height), stretch): ((u32, u32), (u8, u8)),
+    random: &mut Random,
+) -> Case {
+    let width = match kind {
+        Kind::LayerBits => width & !7,
+        _ => width,
+    };
+    let input = input(kind, (width, height), stretch, random);
+    right_data(input, random)
 }
 
 /// An input without data.
@@ -249,7 +286,7 @@ fn too_large(kind: Kind, random: &mut Random) -> Case {
 }
 
 /// The bytes of the stretched dots.
-fn dots_length(input: &Input) -> usize {
+pub fn dots_length(input: &Input) -> usize {
     let (w, h) = rules::stretched(input);
     4 * (w * h) as usize
 }

@@ -5,6 +5,7 @@ use crate::random::Random;
 use crate::rules::canvas::{after, cropped, due, Lent};
 use crate::rules::{BAD_CANVAS, LARGEST};
 
+#[derive(Clone)]
 pub struct Case {
     pub operation: Operation,
     /// The canvas's record, or a damaged one.
@@ -12,6 +13,7 @@ pub struct Case {
     pub lent: Lent,
 }
 
+#[derive(Clone)]
 pub enum Step {
     Growth(bool),
     Paper(u32),

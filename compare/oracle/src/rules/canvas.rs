@@ -99,13 +99,13 @@ fn put(
     room: Test,
 ) -> [Test; 8] {
     let (w, h) = (u128::from(area.w), u128::from(area.h));
-    let n = bytes / 4;
+    let (n, rest) = (bytes / 4, bytes % 4);
     let below = !given.auto_grow && area.y >= given.height;
     let (cut_w, cut_h) = cropped(area, given);
     let short = is_cropping(area, given) && cut_h > 0 && (cut_h - 1) * w + cut_w > n;
     [
         bad,
-        (WRONG_LENGTH, bytes % 4 != 0),
+        (WRONG_LENGTH, rest != 0),
         (TOO_LARGE, w > LIMIT || h > LIMIT),
         (TOO_MANY, n > w * h),
         (OFF_PAPER, area.x >= given.width || below),
