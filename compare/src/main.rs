@@ -5,6 +5,7 @@ mod canvas;
 mod colour;
 mod decoders;
 mod failures;
+mod incident;
 mod library;
 mod progress;
 mod question;
@@ -27,6 +28,10 @@ fn main() -> ExitCode {
             _ => usage(),
         },
         ["replay", file] => replay(file),
+        ["incident"] => {
+            incident::show();
+            ExitCode::SUCCESS
+        }
         ["bench"] => {
             bench::measure();
             ExitCode::SUCCESS
@@ -36,7 +41,7 @@ fn main() -> ExitCode {
 }
 
 fn usage() -> ExitCode {
-    eprintln!("usage: compare run BUILD [CASES SEED] | replay FILE | bench");
+    eprintln!("usage: compare run BUILD [CASES SEED] | replay FILE | incident | bench");
     ExitCode::from(2)
 }
 

@@ -7,7 +7,7 @@ pub mod decoders;
 pub mod random;
 pub mod rules;
 pub mod samples;
-mod stops;
+pub mod stops;
 
 pub use thermal_parser;
 pub use thermal_renderer;
