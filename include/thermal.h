@@ -19,7 +19,7 @@
  * The canvas. A `thermal_image` is a canvas but for its dots, which are the first 4*width*height
  * bytes of the buffer `buf`. Each operation takes the record by value and gives the next one; only
  * the caller keeps it. Between calls the caller may change `auto_grow` and `paper_color`, and write
- * dots to the buffer. A buffer as long as the largest canvas asked for spares all moving.
+ * dots to the buffer. Where a buffer is too short, the same bytes may be lent again in a longer one.
  */
 #ifndef THERMAL_H
 #define THERMAL_H
@@ -107,7 +107,7 @@ typedef struct thermal_decoded {
 } thermal_decoded;
 
 /*
- * Colours. These refuse nothing.
+ * Colours. These refuse nothing, and all but the last write nothing.
  */
 
 /* Answers the colour with another alpha: r, g, g, alpha. Blue takes green's value, as in the Rust. */
