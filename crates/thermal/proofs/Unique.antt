@@ -29,6 +29,9 @@ use Rattle.thermal.proofs.draw.thermal_put_rect.Reads as put-rect
 use Rattle.thermal.proofs.draw.thermal_put_render_img.Reads as put-render-img
 use Rattle.thermal.proofs.draw.thermal_flip_pixels.Reads as flip-pixels
 use Rattle.thermal.proofs.draw.thermal_draw_border.Reads as draw-border
+use Rattle.thermal.proofs.jobs.thermal_run.Reads as run
+use Rattle.thermal.proofs.jobs.thermal_translate.Reads as translate
+use Rattle.thermal.proofs.jobs.thermal_row.Reads as row
 
 with-alpha-one : OneAnswer with-alpha.Post
 with-alpha-one k a x y e f p q = both p q
@@ -164,3 +167,18 @@ draw-border-one k a x y e f p q = both (p .0) (q .0)
 
 draw-border-content : OneContent draw-border.Post (λ k e. now (e .1 .1 .1 .0))
 draw-border-content k a x y e f p q = both (p .1) (q .1)
+
+run-one : OneAnswer run.Post
+run-one k a x y e f p q = both (p .0) (q .0)
+
+run-content : OneContent run.Post (λ k e. now (e .1 .0))
+run-content k a x y e f p q = both (p .1) (q .1)
+
+translate-one : OneAnswer translate.Post
+translate-one k a x y e f p q = both p q
+
+row-one : OneAnswer row.Post
+row-one k a x y e f p q = both (p .0) (q .0)
+
+row-content : OneContent row.Post (λ k e. now (e .1 .1 .1 .0))
+row-content k a x y e f p q = both (p .1) (q .1)

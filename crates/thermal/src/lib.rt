@@ -4,3 +4,4 @@ pub mod canvas;
 pub mod colours;
 pub mod draw;
 pub mod images;
+pub mod jobs;
