@@ -1,4 +1,4 @@
-mod Listed
+pub mod Listed
 mod Going
 mod Answers
 mod Unique

@@ -1,4 +1,4 @@
-mod Rules
+pub mod Rules
 mod Lines
 mod Answers
 mod Unique

@@ -9,7 +9,7 @@ use native.Mathlib.Numerals.{add-one}
 use native.Mathlib.Omega.{arith}
 use borrow.Author.Tests.{leb-true, leb-false, ltb-false, le-leb, lt-leb, lt-ltb, le-ltb}
 use lib.Dec.{ltb, leb}
-use lib.ListN.{getD}
+use lib.ListN.{length, getD}
 use Rattle.numbers.specs.Numbers.{limit, done, noRoom, badPlan, noRow}
 use Rattle.colour.specs.Choice.{if_then_else_}
 use Rattle.dots.proofs.Laws.{below}
@@ -74,6 +74,10 @@ module _ (W H n : ℕ) where
         let d = both (leb 1 W) (leb W limit) (c .0) in
         record { some = leb-true _ _ (d .0); wide = leb-true _ _ (d .1); tall = leb-true _ _ (c .1); few = leb-true _ _ (b .1); entries = a .1 }
 
+    pub good-plan : Good → goodPlan W H n count es ≡ true
+    unfolding goodPlan
+    good-plan g = rw (le-leb 1 W (g .some), le-leb W limit (g .wide), le-leb H limit (g .tall), le-leb count 64 (g .few)) (g .entries)
+
     -- a row that is not refused
     pub record Given (row size : ℕ) : Type 0 where
       pub good : Good
@@ -90,6 +94,21 @@ module _ (W H n : ℕ) where
         by true p false q true r e = absurd (omega arith)
         by true p true q c r e = absurd (omega arith)
         by false p b q c r e = absurd (omega arith)
+
+    pub given-row : (row room : ℕ) → Given row room → rowRefusal W H n count es row room ≡ done
+    unfolding rowRefusal
+    given-row row room g = rw (good-plan (g .good), lt-leb H row (g .below), le-ltb room (4 * W) (omega (arith, g .room)))
+
+-- the first entries of a list that goes on
+first-next : (n : ℕ) (e : Entry) (es : List Entry) → firsts (suc n) (e ∷ es) ≡ e ∷ firsts n es
+unfolding firsts
+first-next zero e es = refl
+first-next (suc n) e es = ap (λ (l : List Entry). l ++ (getD es n noEntry ∷ [])) (first-next n e es)
+
+pub firsts-all : (es fs : List Entry) → firsts (length es) (es ++ fs) ≡ es
+unfolding firsts
+firsts-all [] fs = refl
+firsts-all (e ∷ es) fs = first-next (length es) e (es ++ fs) ∙ ap (λ (l : List Entry). e ∷ l) (firsts-all es fs)
 
 -- an entry that keeps its rules keeps them in a taller plan
 pub good-wider : (W H n : ℕ) (e : Entry) → H ≤ limit → goodEntry W H n e ≡ true → goodEntry W limit n e ≡ true
