@@ -1,0 +1,115 @@
+-- Rows of a plan and rows of the canvas, as bytes. Assumes nothing.
+use Prim.Native.Nat.{ℕ, zero, suc, _+_, _*_, _≤_, _<_}
+use mathlib.Core.Path.{_≡_, refl, ap, sym, _∙_}
+use mathlib.Core.List.{List}
+use native.Mathlib.Nat.{add-mul, mul-le-mul-right, mul-comm}
+use native.Mathlib.Numerals.{add-one-le}
+use native.Mathlib.Omega.{arith}
+use borrow.Author.Tests.{le-ltb}
+use lib.ListN.{length, getD, drop}
+use lib.Seq.{getD-drop}
+use Rattle.numbers.specs.Numbers.{done}
+use Rattle.colour.proofs.Laws.{rgba-eq}
+use Rattle.dots.specs.Dots.{dotAt}
+use Rattle.dots.proofs.Laws.{change-picked, within-yes}
+use Rattle.areas.proofs.Laws.{at-column}
+use Rattle.job.specs.Commands.{paperWidth, commands}
+use Rattle.job.specs.Dropping.{mostCommands, numberOf, jobRefusal, jobHeight, keptOf, jobDropped, padded}
+use Rattle.job.proofs.Walk.{good}
+use Rattle.plan.specs.Plan.{entriesOf, translateRefusal, planOf, translated}
+use Rattle.rows.specs.Rows.{rowOn, ink, used, planRefusal, rowWritten, rowGiven}
+use Rattle.rows.proofs.Rules.{given-row, firsts-all}
+use Rattle.thermal_image.specs.Canvas.{first, roomRefusal, written}
+use Rattle.runs.specs.Pictures.{Picture, shown}
+use Rattle.runs.specs.Run.{runRefusal, runPicture, runCanvas, ranWith, ran, runOn}
+use Rattle.agreement.specs.Agreement.{Plannable, SameRow}
+use Rattle.agreement.proofs.Pictures.{dots-agree}
+use Rattle.agreement.proofs.Rules.{plan-rules}
+
+-- the dot in column i of row j of what a canvas shows
+shown-dot : (W H : ℕ) (p : Picture) (l : List ℕ) (i j : ℕ) → i < W → j < H → 4 * (W * H) ≤ length l → dotAt (shown W H p l) (j * W + i) ≡ p i j
+unfolding shown
+shown-dot W H p l i j a b r =
+    let k : ℕ = j * W + i in
+    let c = at-column W i j a in
+    let d : k < W * H = omega (arith, mul-le-mul-right W (add-one-le b), add-mul j 1 W, mul-comm H W) in
+    change-picked _ _ l k (within-yes 0 (W * H) k (omega arith) d) (omega arith) ∙ rw (c .0, c .1)
+
+-- ---- ink is counted dot by dot
+
+ink-same : (n : ℕ) (l m : List ℕ) → ((i : ℕ) → i < n → dotAt l i ≡ dotAt m i) → ink n l ≡ ink n m
+unfolding ink
+ink-same zero l m h = refl
+ink-same (suc n) l m h = rw (ink-same n l m (λ i b. h i (omega arith)), h n (omega arith))
+
+dot-drop : (l : List ℕ) (k i : ℕ) → dotAt (drop (k * 4) l) i ≡ dotAt l (k + i)
+dot-drop l k i = rgba-eq (at (i * 4) (omega arith)) (at (i * 4 + 1) (omega arith)) (at (i * 4 + 2) (omega arith)) (at (i * 4 + 3) (omega arith))
+  where
+    at : (n : ℕ) {m : ℕ} → m ≡ k * 4 + n → getD (drop (k * 4) l) n 0 ≡ getD l m 0
+    at n e = getD-drop (k * 4) l n 0 ∙ ap (λ (m : ℕ). getD l m 0) (sym e)
+
+-- ---- a job that can be planned
+
+module _ (s : List ℕ) (g : Plannable s) where
+  job-done : jobRefusal s ≡ done
+  unfolding jobRefusal numberOf
+  job-done = rw (g .is-sound, le-ltb mostCommands (length (commands s)) (g .few))
+
+  translate-done : translateRefusal s ≡ done
+  unfolding translateRefusal
+  translate-done = rw (job-done, g .plain)
+
+  pub translated-is : translated s ≡ record { number = done; plan = planOf s }
+  unfolding translated
+  translated-is = rw translate-done
+
+  run-done : (n : ℕ) → 4 * (paperWidth s * jobHeight s) ≤ n → runRefusal s n ≡ done
+  unfolding runRefusal first roomRefusal
+  run-done n r = rw (job-done, le-ltb n (4 * (paperWidth s * jobHeight s)) r)
+
+  pub ran-is : (n : ℕ) → 4 * (paperWidth s * jobHeight s) ≤ n → ran s n ≡ ranWith done (runCanvas s) (jobDropped s)
+  unfolding ran
+  ran-is n r = rw (run-done n r)
+
+  used-all : used (planOf s) ≡ entriesOf (paperWidth s) (keptOf s)
+  unfolding planOf padded
+  used-all = firsts-all (entriesOf (paperWidth s) (keptOf s)) _
+
+  -- every row is given
+  row-done : (j n : ℕ) → j < jobHeight s → 4 * paperWidth s ≤ n → planRefusal (planOf s) j (length s) n ≡ done
+  unfolding planOf
+  row-done j n h r =
+      rw used-all
+      (given-row (paperWidth s) (jobHeight s) (length s) _ _ j n (record { good = plan-rules s (g .bytes) (good s job-done); below = h; room = omega arith }))
+
+  module _ (buf line : List ℕ) (j : ℕ) (h : j < jobHeight s) (room : 4 * (paperWidth s * jobHeight s) ≤ length buf) (r : 4 * paperWidth s ≤ length line) where
+    run-dot : (i : ℕ) → i < paperWidth s → dotAt (runOn s buf) (j * paperWidth s + i) ≡ runPicture s i j
+    unfolding runOn written
+    run-dot i a = rw (run-done (length buf) room) (shown-dot (paperWidth s) (jobHeight s) (runPicture s) buf i j a h room)
+
+    row-dot : (i : ℕ) → i < paperWidth s → dotAt (rowWritten s (planOf s) j line) i ≡ runPicture s i j
+    unfolding rowWritten rowOn planOf
+    row-dot i a =
+        rw (row-done j (length line) h r)
+        (change-picked _ _ line i (within-yes 0 (paperWidth s) i (omega arith) a) (omega arith) ∙ rw used-all (dots-agree s i j a (g .plain)))
+
+    same-dot : (i : ℕ) → i < paperWidth s → dotAt (rowWritten s (planOf s) j line) i ≡ dotAt (runOn s buf) (j * paperWidth s + i)
+    same-dot i a = row-dot i a ∙ sym (run-dot i a)
+
+    -- the ink is that of what was written
+    ink-of : rowGiven s (planOf s) j line .ink ≡ ink (paperWidth s) (rowWritten s (planOf s) j line)
+    unfolding rowGiven rowWritten planOf
+    ink-of = rw (row-done j (length line) h r)
+
+    number-of : rowGiven s (planOf s) j line .number ≡ done
+    unfolding rowGiven
+    number-of = row-done j (length line) h r
+
+    pub same-row : SameRow (paperWidth s) j (runOn s buf) (rowGiven s (planOf s) j line) (rowWritten s (planOf s) j line)
+    same-row =
+        let W : ℕ = paperWidth s in
+        record {
+          number = number-of;
+          dot = same-dot;
+          ink = ink-of ∙ ink-same W _ _ (λ i a. same-dot i a ∙ sym (dot-drop (runOn s buf) (j * W) i));
+        }
