@@ -3,3 +3,4 @@ mod Pictures
 mod Rules
 mod Rows
 pub mod Demand
+mod Examples
