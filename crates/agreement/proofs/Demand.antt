@@ -19,13 +19,13 @@ use Rattle.agreement.proofs.Rows.{translated-is, ran-is, same-row}
 -- ---- what the contracts say of the calls
 
 run-is : (s l : List ℕ) (r : Ran) (m : List ℕ) → Run s l r m → (r ≡ ran s (length l)) × (m ≡ runOn s l)
-run-is s l r m c = rw (← c .given .0, ← c .given .1, ← c .left) (c .allowed)
+run-is s l r m c = rw (← c .given .0, ← c .given .1, ← c .left) (c .kept)
 
 translate-is : (s : List ℕ) (t : Translated) → Translate s t → t ≡ translated s
-translate-is s t c = rw (← c .given) (c .allowed)
+translate-is s t c = rw (← c .given) (c .kept)
 
 row-is : (p : Plan) (j : ℕ) (s l : List ℕ) (a : RowAnswer) (m : List ℕ) → Row p j s l a m → (a ≡ rowGiven s p j l) × (m ≡ rowWritten s p j l)
-row-is p j s l a m c = rw (← c .given .0, ← c .given .1, ← c .given .2, ← c .given .3, ← c .left) (c .allowed)
+row-is p j s l a m c = rw (← c .given .0, ← c .given .1, ← c .given .2, ← c .given .3, ← c .left) (c .kept)
 
 -- ---- the run's answer and the translation's, of a job that can be planned
 
@@ -34,8 +34,8 @@ module _ (s l : List ℕ) (g : Plannable s) (room : 4 * (paperWidth s * jobHeigh
   unfolding planOf runCanvas
   same =
       record {
-        number = refl;
-        translated = refl;
+        run-done = refl;
+        translate-done = refl;
         width = refl;
         height = refl;
         paper = refl;

@@ -20,29 +20,29 @@ use Rattle.rows.proofs.row.Reads as row
 use Rattle.runs.specs.declared.Ran.{Ran}
 use Rattle.runs.proofs.run.Reads as run
 
--- ---- a call of a shipped function: all that is known of it is its contract, which the checker reads off the source
+-- ---- calls of the shipped functions. All that is known of a call is that it keeps the contract, `F.Reads.Post`, which the checker reads off the source of F
 
--- it answers r to such arguments, and leaves such in what it was lent
+-- a call that answers r: its arguments are as `such` says, and at its return they are as `leaves` says
 pub record Call {K : Type 0} {A E : K → Type 0} {R : Type 0} (contract : (k : K) → A k → R → E k → Type 0) (such : (k : K) → A k → Type 0) (leaves : (k : K) → E k → Type 0) (r : R) : Type 0 where
   pub lifetimes : K
   pub arguments : A lifetimes
   pub at-return : E lifetimes
-  pub allowed : contract lifetimes arguments r at-return
+  pub kept : contract lifetimes arguments r at-return
   pub given : such lifetimes arguments
   pub left : leaves lifetimes at-return
 
--- let r = run(s, buf): buf holds the bytes l before and m after
+-- let r = run(s, buf); `before` and `after` are the bytes of buf before and after the call
 abbrev pub Run : List ℕ → List ℕ → Ran → List ℕ → Type 0
-Run s l r m = Call run.Post (λ k a. (now (a .0) ≡ s) × (now (a .1 .0) ≡ l)) (λ k e. now (e .1 .0) ≡ m) r
+Run s before r after = Call run.Post (λ k a. (now (a .0) ≡ s) × (now (a .1 .0) ≡ before)) (λ k e. now (e .1 .0) ≡ after) r
 
 -- let t = translate(s)
 abbrev pub Translate : List ℕ → Translated → Type 0
 Translate s t = Call translate.Post (λ k a. now (a .0) ≡ s) (λ k e. Unit {0}) t
 
--- let a = row(plan, j, s, line): line holds the bytes l before and m after
+-- let r = row(plan, j, s, line), with the bytes of line before and after
 abbrev pub Row : Plan → ℕ → List ℕ → List ℕ → RowAnswer → List ℕ → Type 0
-Row plan j s l a m =
-    Call row.Post (λ k a. (a .0 ≡ plan) × (a .1 .0 ≡ j) × (now (a .1 .1 .0) ≡ s) × (now (a .1 .1 .1 .0) ≡ l)) (λ k e. now (e .1 .1 .1 .0) ≡ m) a
+Row plan j s before r after =
+    Call row.Post (λ k a. (a .0 ≡ plan) × (a .1 .0 ≡ j) × (now (a .1 .1 .0) ≡ s) × (now (a .1 .1 .1 .0) ≡ before)) (λ k e. now (e .1 .1 .1 .0) ≡ after) r
 
 -- ---- what is claimed
 
@@ -53,26 +53,29 @@ pub record Plannable (s : List ℕ) : Type 0 where
   pub few : length (commands s) ≤ mostCommands
   pub plain : hasFlip (commands s) ≡ false
 
--- a row's answer and its buffer, beside row j of a canvas W dots wide
-pub record SameRow (W j : ℕ) (canvas : List ℕ) (a : RowAnswer) (line : List ℕ) : Type 0 where
-  pub number : a .number ≡ done
-  -- the four bytes of each column
-  pub dot : (i : ℕ) → i < W → dotAt line i ≡ dotAt canvas (j * W + i)
-  -- the ink is that of the canvas's row
-  pub ink : a .ink ≡ ink W (drop (j * W * 4) canvas)
-
--- a run's answer and its buffer, beside a translation
-pub record Same (s : List ℕ) (r : Ran) (canvas : List ℕ) (t : Translated) : Type 0 where
+-- what `row` answers and leaves in its buffer, beside row j of a canvas W dots wide
+pub record SameRow (W j : ℕ) (canvas : List ℕ) (r : RowAnswer) (line : List ℕ) : Type 0 where
   pub number : r .number ≡ done
-  pub translated : t .number ≡ done
+  -- the four bytes of column i
+  pub dot : (i : ℕ) → i < W → dotAt line i ≡ dotAt canvas (j * W + i)
+  -- the count over the canvas's row
+  pub ink : r .ink ≡ ink W (drop (j * W * 4) canvas)
+
+-- what `run` answers and leaves in its buffer, beside what `translate` answers
+pub record Same (s : List ℕ) (r : Ran) (canvas : List ℕ) (t : Translated) : Type 0 where
+  pub run-done : r .number ≡ done
+  pub translate-done : t .number ≡ done
   pub width : r .image .width ≡ t .plan .width
   pub height : r .image .height ≡ t .plan .height
   pub paper : r .image .«paper_color» ≡ t .plan .«paper_color»
   pub count : r .«dropped_count» ≡ t .plan .«dropped_count»
   pub dropped : r .dropped ≡ t .plan .dropped
-  -- each row alone, so they may be asked for in any order
-  pub rows : (j : ℕ) (l m : List ℕ) (a : RowAnswer) → j < t .plan .height → 4 * t .plan .width ≤ length l → Row (t .plan) j s l a m → SameRow (t .plan .width) j canvas a m
+  -- each row alone, so that rows may be asked for in any order
+  pub rows : (j : ℕ) (before line : List ℕ) (a : RowAnswer) → j < t .plan .height → 4 * t .plan .width ≤ length before
+      → Row (t .plan) j s before a line → SameRow (t .plan .width) j canvas a line
 
+-- for every such job and every canvas buffer with room for the plan's height
 abbrev pub Demand3 : Type 0
 Demand3 =
-    (s l m : List ℕ) (r : Ran) (t : Translated) → Plannable s → Translate s t → Run s l r m → 4 * (t .plan .width * t .plan .height) ≤ length l → Same s r m t
+    (s before canvas : List ℕ) (r : Ran) (t : Translated) → Plannable s → Translate s t → Run s before r canvas
+    → 4 * (t .plan .width * t .plan .height) ≤ length before → Same s r canvas t
