@@ -2,8 +2,6 @@
 use Prim.Native.Nat.{ℕ, zero, suc, _+_, _*_, _≤_, _<_}
 use mathlib.Core.Path.{_≡_, refl, ap, sym, _∙_}
 use mathlib.Core.List.{List}
-use native.Mathlib.Nat.{add-mul, mul-le-mul-right, mul-comm}
-use native.Mathlib.Numerals.{add-one-le}
 use native.Mathlib.Omega.{arith}
 use borrow.Author.Tests.{le-ltb}
 use lib.ListN.{length, getD, drop}
@@ -12,7 +10,6 @@ use Rattle.numbers.specs.Numbers.{done}
 use Rattle.colour.proofs.Laws.{rgba-eq}
 use Rattle.dots.specs.Dots.{dotAt}
 use Rattle.dots.proofs.Laws.{change-picked, within-yes}
-use Rattle.areas.proofs.Laws.{at-column}
 use Rattle.job.specs.Commands.{paperWidth, commands}
 use Rattle.job.specs.Dropping.{mostCommands, numberOf, jobRefusal, jobHeight, keptOf, jobDropped, padded}
 use Rattle.job.proofs.Walk.{good}
@@ -20,20 +17,11 @@ use Rattle.plan.specs.Plan.{entriesOf, translateRefusal, planOf, translated}
 use Rattle.rows.specs.Rows.{rowOn, ink, used, planRefusal, rowWritten, rowGiven}
 use Rattle.rows.proofs.Rules.{given-row, firsts-all}
 use Rattle.thermal_image.specs.Canvas.{first, roomRefusal, written}
-use Rattle.runs.specs.Pictures.{Picture, shown}
 use Rattle.runs.specs.Run.{runRefusal, runPicture, runCanvas, ranWith, ran, runOn}
+use Rattle.runs.proofs.Pictures.{shown-dot}
 use Rattle.agreement.specs.Agreement.{Plannable, SameRow}
 use Rattle.agreement.proofs.Pictures.{dots-agree}
 use Rattle.agreement.proofs.Rules.{plan-rules}
-
--- the dot in column i of row j of what a canvas shows
-shown-dot : (W H : ℕ) (p : Picture) (l : List ℕ) (i j : ℕ) → i < W → j < H → 4 * (W * H) ≤ length l → dotAt (shown W H p l) (j * W + i) ≡ p i j
-unfolding shown
-shown-dot W H p l i j a b r =
-    let k : ℕ = j * W + i in
-    let c = at-column W i j a in
-    let d : k < W * H = omega (arith, mul-le-mul-right W (add-one-le b), add-mul j 1 W, mul-comm H W) in
-    change-picked _ _ l k (within-yes 0 (W * H) k (omega arith) d) (omega arith) ∙ rw (c .0, c .1)
 
 -- ---- ink is counted dot by dot
 
@@ -85,7 +73,7 @@ module _ (s : List ℕ) (g : Plannable s) where
   module _ (buf line : List ℕ) (j : ℕ) (h : j < jobHeight s) (room : 4 * (paperWidth s * jobHeight s) ≤ length buf) (r : 4 * paperWidth s ≤ length line) where
     run-dot : (i : ℕ) → i < paperWidth s → dotAt (runOn s buf) (j * paperWidth s + i) ≡ runPicture s i j
     unfolding runOn written
-    run-dot i a = rw (run-done (length buf) room) (shown-dot (paperWidth s) (jobHeight s) (runPicture s) buf i j a h room)
+    run-dot i a = rw (run-done (length buf) room) (shown-dot (paperWidth s) (jobHeight s) (runPicture s) buf (omega arith) i j a h)
 
     row-dot : (i : ℕ) → i < paperWidth s → dotAt (rowWritten s (planOf s) j line) i ≡ runPicture s i j
     unfolding rowWritten rowOn planOf
