@@ -1,0 +1,5 @@
+mod Digits
+pub mod Lines
+mod Jobs
+mod Examples
+mod Unique

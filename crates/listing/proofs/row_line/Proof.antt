@@ -1,0 +1,71 @@
+-- `listing::row_line` meets its contract. Assumes nothing.
+use mathlib.Core.List.{_++_}
+use Rattle.listing.specs.Listing.{ascii, part, rowLine}
+use Rattle.listing.proofs.Lines.{Begun, begun-none, begun-more, begun-same, line-refused, line-put, row-size, row-parts}
+use borrow.Author.Needs.{needs}
+use Rattle.listing.proofs.row_line.Statement.{statement}
+use Rattle.listing.proofs.row_line.Tie as tie
+use Rattle.listing.proofs.row_line.Reads as reads
+use Rattle.listing.proofs.row_line.Lts as lts
+use Rattle.listing.proofs.writing.digits_of.Reads as digits-of-reads
+use Rattle.listing.proofs.writing.put_part.Reads as put-part-reads
+
+begun : (c : tie.After-slice-known3) → let a = c .before .before .before .before .before .before .before .before .before .before .before .before .before .before .args in Begun (part "row " (a .row) ++ part " ink " (a .ink)) (a .out .now) (c .before .before .put-part2 .last .1 .1 .1 .0) (c .before .before .put-part2 .result)
+unfolding part ascii
+begun c = let a = c .before .before .before .before .before .before .before .before .before .before .before .before .before .before .args in begun-more (begun-more (begun-none (a .out .now)) (part "row " (a .row)) (c .before .before .before .before .before .before .before .put-part .ensures .0) (c .before .before .before .before .before .before .before .put-part .ensures .1)) (part " ink " (a .ink)) (c .before .before .put-part2 .ensures .0) (c .before .before .put-part2 .ensures .1)
+
+digits-of-requires : tie.Need-digits-of-requires
+digits-of-requires c κs = search needs
+
+add-size : tie.Need-add-size
+add-size c = search needs
+
+digits-of-requires-2 : tie.Need-digits-of-requires-2
+digits-of-requires-2 c κs = search needs
+
+add-size-2 : tie.Need-add-size-2
+add-size-2 c = search needs
+
+returns : tie.Need-returns
+returns c = let a = c .before .before .before .before .args in line-refused (rowLine (a .row) (a .ink)) (a .out .now) (row-size (a .row) (a .ink) (c .before .before .digits-of .ensures .0) (c .before .digits-of2 .ensures .0)) (c .if1 .taken)
+
+slice-aggregate-put-part : tie.Need-slice-aggregate-put-part
+slice-aggregate-put-part c = search needs
+
+put-part-requires : tie.Need-put-part-requires
+put-part-requires c κs = search needs
+
+slice-aggregate-put-part-2 : tie.Need-slice-aggregate-put-part-2
+slice-aggregate-put-part-2 c = search needs
+
+put-part-requires-2 : tie.Need-put-part-requires-2
+put-part-requires-2 c κs = search needs
+
+slice-write-out : tie.Need-slice-write-out
+slice-write-out c = search needs
+
+same-length : tie.Need-same-length
+same-length c = begun-same (begun c)
+
+returns-2 : tie.Need-returns-2
+returns-2 c =
+    let e = c .before .before .before .before .before .before .before .before .before .before in
+    let a = e .before .before .before .before .args in
+    line-put (rowLine (a .row) (a .ink)) (a .out .now) (row-size (a .row) (a .ink) (e .before .before .digits-of .ensures .0) (e .before .digits-of2 .ensures .0)) (e .if1 .left) (begun c) (row-parts (a .row) (a .ink))
+
+pub row-line-spec : {M : Type 1} → statement M
+row-line-spec =
+    tie.close
+    (tie.spec
+    digits-of-requires
+    add-size
+    digits-of-requires-2
+    add-size-2
+    returns
+    slice-aggregate-put-part
+    put-part-requires
+    slice-aggregate-put-part-2
+    put-part-requires-2
+    slice-write-out
+    same-length
+    returns-2)
