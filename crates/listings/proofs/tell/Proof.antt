@@ -1,0 +1,21 @@
+-- `listings::tell` meets its contract. Assumes nothing.
+use native.Mathlib.Omega.{arith}
+use lib.ListN.{length-take}
+use borrow.Author.Needs.{needs}
+use Rattle.listings.proofs.tell.Statement.{statement}
+use Rattle.listings.proofs.tell.Tie as tie
+use Rattle.listings.proofs.tell.Reads as reads
+use Rattle.listings.proofs.tell.Lts as lts
+use Rattle.io.proofs.write_all.Reads as write-all-reads
+
+slice-aggregate-write-all : tie.Need-slice-aggregate-write-all
+slice-aggregate-write-all c = simp length-take (omega arith)
+
+write-all-requires : tie.Need-write-all-requires
+write-all-requires c κs = search needs
+
+returns : tie.Need-returns
+returns c = search needs
+
+pub tell-spec : {M : Type 1} → statement M
+tell-spec = tie.close (tie.spec slice-aggregate-write-all write-all-requires returns)
