@@ -15,7 +15,7 @@ use Rattle.job.specs.Commands.{afterPaper, commandAt, commands, commandsIn, sou
 use Rattle.job.specs.Dropping.{droppedFrom, flipRefusal, grown, heightFrom, imageRefusal, jobDropped, jobHeight, jobRefusal, keptFrom, keptOf, next, numberOf, putRefusal, refusal, tallRefusal}
 use Rattle.entries.specs.Entries.{entryOn, entryPixel, goodEntry, goodImage, goodKind, goodStretch, imagePixel}
 use Rattle.plan.specs.Plan.{entriesOf, hasFlip, imageEntry, isFlip, margins, padded, planOf, rectangleEntry, translateRefusal, translated}
-use Rattle.rows.specs.Rows.{entriesOn, firsts, goodEntries, goodPlan, hasInk, ink, rowGiven, rowOn, rowRefusal}
+use Rattle.rows.specs.Rows.{goodSizes, goodEntries, goodPlan, refusalOf, entriesOn, rowOn, hasInk, ink, rowGiven, firsts}
 use Rattle.listing.specs.Listing.{ascii, digitsBy, digits, part, paperLine, rowLine, refusedLine, listed, firstLine, inkOf, rowLines, listing}
 
 job : List ℕ
@@ -28,7 +28,7 @@ job =
     ∷ []
 
 example : listing job ≡ ascii "paper 10 height 3 dropped 1\nrow 0 ink 0\nrow 1 ink 4\nrow 2 ink 4\n"
-unfolding job listing listed firstLine rowLines inkOf paperLine rowLine part digits digitsBy ascii translated translateRefusal jobRefusal numberOf sound soundRecords soundPaper soundCommands soundCommand records upTo one recordAt le16 le32 rgbaAt commands commandsIn commandAt afterPaper hasFlip isFlip planOf jobHeight heightFrom jobDropped droppedFrom keptOf keptFrom next grown refusal putRefusal imageRefusal flipRefusal tallRefusal factor isLarge bytesOf margins entriesOf rectangleEntry imageEntry padded rowGiven rowRefusal goodPlan goodEntries goodEntry goodKind goodImage goodStretch firsts rowOn ink hasInk entriesOn entryOn entryPixel imagePixel pixelOf alphaOf bitAlpha inArea drawn change within paint tab chan blendedAt blendByte multiplied multiplyByte roundAway product ofInt mul div
+unfolding job listing listed firstLine rowLines inkOf paperLine rowLine part digits digitsBy ascii translated translateRefusal jobRefusal numberOf sound soundRecords soundPaper soundCommands soundCommand records upTo one recordAt le16 le32 rgbaAt commands commandsIn commandAt afterPaper hasFlip isFlip planOf jobHeight heightFrom jobDropped droppedFrom keptOf keptFrom next grown refusal putRefusal imageRefusal flipRefusal tallRefusal factor isLarge bytesOf margins entriesOf rectangleEntry imageEntry padded rowGiven refusalOf goodPlan goodSizes goodEntries goodEntry goodKind goodImage goodStretch firsts rowOn ink hasInk entriesOn entryOn entryPixel imagePixel pixelOf alphaOf bitAlpha inArea drawn change within paint tab chan blendedAt blendByte multiplied multiplyByte roundAway product ofInt mul div
 example = refl
 
 empty : listing [] ≡ ascii "refused 11\n"

@@ -11,7 +11,7 @@ use Rattle.colour.specs.Colour.{blank}
 use Rattle.plan.specs.declared.Plan.{Plan}
 use Rattle.plan.specs.declared.Translated.{Translated}
 use Rattle.plan.specs.Plan.{planWith, translated}
-use Rattle.rows.specs.Rows.{rowGiven}
+use Rattle.rows.specs.Rows.{planGiven}
 use Rattle.listing.specs.declared.Written.{Written}
 
 -- ---- text
@@ -73,9 +73,9 @@ listed s = if ltb mostBytes (length s) then record { number = badJob; plan = pla
 unfoldable pub firstLine : Translated → List ℕ
 firstLine t = if eqb (t .number) done then paperLine (t .plan .width) (t .plan .height) (t .plan .«dropped_count») else refusedLine (t .number)
 
--- a row's ink, on a row buffer of zeros
+-- a row's ink, in a row buffer of zeros. It is the same in any other (`row-ink`)
 unfoldable pub inkOf : List ℕ → Plan → ℕ → ℕ
-inkOf s p row = rowGiven s p row (replicate (4 * p .width) 0) .ink
+inkOf s p row = planGiven s p row (replicate (4 * p .width) 0) .ink
 
 -- the lines of the first n rows
 unfoldable pub rowLines : List ℕ → Plan → ℕ → List ℕ

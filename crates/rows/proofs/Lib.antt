@@ -1,4 +1,4 @@
 pub mod Rules
-mod Lines
-mod Answers
+pub mod Lines
+pub mod Answers
 mod Unique

@@ -16,12 +16,27 @@ use Rattle.dots.proofs.Laws.{below}
 use Rattle.entries.specs.declared.Entry.{Entry}
 use Rattle.entries.specs.Entries.{goodKind, goodEntry}
 use Rattle.job.specs.Commands.{soundMode}
+use Rattle.job.specs.Dropping.{mostCommands}
 use Rattle.plan.specs.Plan.{noEntry}
-use Rattle.rows.specs.Rows.{goodEntries, goodPlan, rowRefusal, firsts}
+use Rattle.rows.specs.Rows.{goodSizes, goodEntries, goodPlan, refusalOf, rowRefusal, firsts}
 
 both : (a b : Bool) → (a && b) ≡ true → (a ≡ true) × (b ≡ true)
 both true b e = (refl, e)
 both false b e = absurd (true≢false (sym e))
+
+pub record Sizes (W H count : ℕ) : Type 0 where
+  pub some : 1 ≤ W
+  pub wide : W ≤ limit
+  pub tall : H ≤ limit
+  pub few : count ≤ mostCommands
+
+pub sizes-good : (W H count : ℕ) → goodSizes W H count ≡ true → Sizes W H count
+unfolding goodSizes
+sizes-good W H count e =
+    let b = both (leb 1 W && leb W limit && leb H limit) (leb count mostCommands) e in
+    let c = both (leb 1 W && leb W limit) (leb H limit) (b .0) in
+    let d = both (leb 1 W) (leb W limit) (c .0) in
+    record { some = leb-true _ _ (d .0); wide = leb-true _ _ (d .1); tall = leb-true _ _ (c .1); few = leb-true _ _ (b .1) }
 
 module _ (W H n : ℕ) where
   good-more : (es : List Entry) (e : Entry) → goodEntries W H n (es ++ (e ∷ [])) ≡ (goodEntries W H n es && goodEntry W H n e)
@@ -59,20 +74,12 @@ module _ (W H n : ℕ) where
 
   module _ (count : ℕ) (es : List Entry) where
     pub record Good : Type 0 where
-      pub some : 1 ≤ W
-      pub wide : W ≤ limit
-      pub tall : H ≤ limit
-      pub few : count ≤ 64
+      pub sizes : Sizes W H count
       pub entries : goodEntries W H n es ≡ true
 
     pub plan-good : goodPlan W H n count es ≡ true → Good
     unfolding goodPlan
-    plan-good e =
-        let a = both (leb 1 W && leb W limit && leb H limit && leb count 64) _ e in
-        let b = both (leb 1 W && leb W limit && leb H limit) (leb count 64) (a .0) in
-        let c = both (leb 1 W && leb W limit) (leb H limit) (b .0) in
-        let d = both (leb 1 W) (leb W limit) (c .0) in
-        record { some = leb-true _ _ (d .0); wide = leb-true _ _ (d .1); tall = leb-true _ _ (c .1); few = leb-true _ _ (b .1); entries = a .1 }
+    plan-good e = let a = both (goodSizes W H count) _ e in record { sizes = sizes-good W H count (a .0); entries = a .1 }
 
     pub good-plan : Good → goodPlan W H n count es ≡ true
     unfolding goodPlan
@@ -85,7 +92,7 @@ module _ (W H n : ℕ) where
       pub room : W * 4 ≤ size
 
     pub row-given : (row room : ℕ) → rowRefusal W H n count es row room ≡ done → Given row room
-    unfolding rowRefusal
+    unfolding refusalOf
     row-given row room = by (goodPlan W H n count es) refl (leb H row) refl (ltb room (4 * W)) refl
       where
         by : (a : Bool) → goodPlan W H n count es ≡ a → (b : Bool) → leb H row ≡ b → (c : Bool) → ltb room (4 * W) ≡ c

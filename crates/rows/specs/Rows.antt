@@ -10,6 +10,7 @@ use Rattle.colour.specs.declared.RGBA.{RGBA}
 use Rattle.dots.specs.Dots.{dotAt, change, within}
 use Rattle.entries.specs.declared.Entry.{Entry}
 use Rattle.entries.specs.Entries.{goodEntry, entryOn}
+use Rattle.job.specs.Dropping.{mostCommands}
 use Rattle.plan.specs.Plan.{noEntry}
 use Rattle.plan.specs.declared.Plan.{Plan}
 use Rattle.rows.specs.declared.RowAnswer.{RowAnswer}
@@ -20,17 +21,24 @@ unfoldable pub goodEntries : ℕ → ℕ → ℕ → List Entry → Bool
 goodEntries W H n [] = true
 goodEntries W H n (e ∷ es) = goodEntry W H n e && goodEntries W H n es
 
--- W is 1 to 16,384, height at most 16,384, at most 64 entries, and each keeps its rules. n is the number of the given bytes
+-- W is 1 to 16,384, height at most 16,384, at most 64 entries
+unfoldable pub goodSizes : ℕ → ℕ → ℕ → Bool
+goodSizes W H count = leb 1 W && leb W limit && leb H limit && leb count mostCommands
+
+-- and each keeps its rules. n is the number of the given bytes
 unfoldable pub goodPlan : ℕ → ℕ → ℕ → ℕ → List Entry → Bool
-goodPlan W H n count es = leb 1 W && leb W limit && leb H limit && leb count 64 && goodEntries W H n es
+goodPlan W H n count es = goodSizes W H count && goodEntries W H n es
 
 -- order 14, 15, 1, for a row buffer of `room` bytes
-unfoldable pub rowRefusal : ℕ → ℕ → ℕ → ℕ → List Entry → ℕ → ℕ → ℕ
-rowRefusal W H n count es row room =
-    if not (goodPlan W H n count es) then badPlan
+unfoldable pub refusalOf : Bool → ℕ → ℕ → ℕ → ℕ → ℕ
+refusalOf good W H row room =
+    if not good then badPlan
     else if leb H row then noRow
     else if ltb room (4 * W) then noRoom
     else done
+
+abbrev pub rowRefusal : ℕ → ℕ → ℕ → ℕ → List Entry → ℕ → ℕ → ℕ
+rowRefusal W H n count es row room = refusalOf (goodPlan W H n count es) W H row room
 
 -- ---- a row is paper with the entries applied in order
 
@@ -51,8 +59,26 @@ unfoldable pub ink : ℕ → List ℕ → ℕ
 ink zero l = 0
 ink (suc n) l = ink n l + (if hasInk (dotAt l n) then 1 else 0)
 
--- ---- the row of a plan record: of its first `count` entries
+-- ---- the row of `count` entries es on paper W wide and H high. A refusal writes nothing and has no ink
 
+unfoldable pub rowWritten : List ℕ → ℕ → ℕ → RGBA → ℕ → List Entry → ℕ → List ℕ → List ℕ
+rowWritten s W H paper count es row l = if eqb (rowRefusal W H (length s) count es row (length l)) done then rowOn s W paper es row l else l
+
+unfoldable pub rowGiven : List ℕ → ℕ → ℕ → RGBA → ℕ → List Entry → ℕ → List ℕ → RowAnswer
+rowGiven s W H paper count es row l =
+    record {
+      number = rowRefusal W H (length s) count es row (length l);
+      ink = if eqb (rowRefusal W H (length s) count es row (length l)) done then ink W (rowOn s W paper es row l) else 0;
+    }
+
+-- of a list that the caller lends: all its entries
+abbrev pub listWritten : List ℕ → ℕ → ℕ → RGBA → List Entry → ℕ → List ℕ → List ℕ
+listWritten s W H paper es row l = rowWritten s W H paper (length es) es row l
+
+abbrev pub listGiven : List ℕ → ℕ → ℕ → RGBA → List Entry → ℕ → List ℕ → RowAnswer
+listGiven s W H paper es row l = rowGiven s W H paper (length es) es row l
+
+-- of a plan record: its first `count` entries
 unfoldable pub firsts : ℕ → List Entry → List Entry
 firsts zero es = []
 firsts (suc n) es = firsts n es ++ (getD es n noEntry ∷ [])
@@ -63,13 +89,8 @@ used p = firsts (p .count) (p .entries)
 abbrev pub planRefusal : Plan → ℕ → ℕ → ℕ → ℕ
 planRefusal p row n room = rowRefusal (p .width) (p .height) n (p .count) (used p) row room
 
--- a refusal writes nothing and has no ink
-unfoldable pub rowWritten : List ℕ → Plan → ℕ → List ℕ → List ℕ
-rowWritten s p row l = if eqb (planRefusal p row (length s) (length l)) done then rowOn s (p .width) (p .«paper_color») (used p) row l else l
+abbrev pub planWritten : List ℕ → Plan → ℕ → List ℕ → List ℕ
+planWritten s p row l = rowWritten s (p .width) (p .height) (p .«paper_color») (p .count) (used p) row l
 
-unfoldable pub rowGiven : List ℕ → Plan → ℕ → List ℕ → RowAnswer
-rowGiven s p row l =
-    record {
-      number = planRefusal p row (length s) (length l);
-      ink = if eqb (planRefusal p row (length s) (length l)) done then ink (p .width) (rowOn s (p .width) (p .«paper_color») (used p) row l) else 0;
-    }
+abbrev pub planGiven : List ℕ → Plan → ℕ → List ℕ → RowAnswer
+planGiven s p row l = rowGiven s (p .width) (p .height) (p .«paper_color») (p .count) (used p) row l

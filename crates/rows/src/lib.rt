@@ -4,7 +4,7 @@ ghost use Prim.Native.Nat.{_*_, _≤_};
 ghost use lib.ListN.{length};
 ghost use Rattle.numbers.specs.Numbers.{limit, done};
 ghost use Rattle.colour.specs.Choice.{if_then_else_};
-ghost use Rattle.rows.specs.Rows.{goodEntries, goodPlan, rowOn, hasInk, ink, used, planRefusal, rowWritten, rowGiven};
+ghost use Rattle.rows.specs.Rows.{goodSizes, goodEntries, goodPlan, refusalOf, rowOn, hasInk, ink, used, planRefusal, planWritten, planGiven};
 use colour::RGBA;
 use dots::fill_run;
 use dots::get_dot;
@@ -41,32 +41,39 @@ fn good_entries(plan: Plan, n: usize) -> bool
     true
 }
 
+pub fn good_sizes(width: u32, height: u32, count: usize) -> bool
+    ensures { λ r. ⌜ r ≡ goodSizes width height count ⌝ }
+{
+    if width < 1 {
+        return false;
+    }
+    if width > LIMIT {
+        return false;
+    }
+    if height > LIMIT {
+        return false;
+    }
+    count <= MOST_COMMANDS
+}
+
 fn good_plan(plan: Plan, n: usize) -> bool
     ensures { λ r. ⌜ r ≡ goodPlan (plan .width) (plan .height) n (plan .count) (used plan) ⌝ }
 {
-    if plan.width < 1 {
-        return false;
+    if good_sizes(plan.width, plan.height, plan.count) {
+        return good_entries(plan, n);
     }
-    if plan.width > LIMIT {
-        return false;
-    }
-    if plan.height > LIMIT {
-        return false;
-    }
-    if plan.count > MOST_COMMANDS {
-        return false;
-    }
-    good_entries(plan, n)
+    false
 }
 
-fn row_refusal(plan: Plan, row: u32, n: usize, room: usize) -> u8
-    ensures { λ r. ⌜ r ≡ planRefusal plan row n room ⌝ }
+// `good` says whether the plan rules are kept.
+pub fn refusal_of(good: bool, width: u32, height: u32, row: u32, room: usize) -> u8
+    ensures { λ r. ⌜ r ≡ refusalOf good width height row room ⌝ }
 {
-    if good_plan(plan, n) {
-        if plan.height <= row {
+    if good {
+        if height <= row {
             return NO_ROW;
         }
-        if room / 4 < plan.width as usize {
+        if room / 4 < width as usize {
             return NO_ROOM;
         }
         return DONE;
@@ -84,7 +91,7 @@ fn inked(d: RGBA) -> u32
     0
 }
 
-fn ink_of(line: &[u8], n: usize) -> u32
+pub fn ink_of(line: &[u8], n: usize) -> u32
     requires { ⌜ (n * 4 ≤ length (now line)) × (n ≤ limit) ⌝ }
     ensures { λ r. ⌜ r ≡ ink n (now (line .entry)) ⌝ }
 {
@@ -113,10 +120,11 @@ fn draw_row(plan: Plan, row: u32, data: &[u8], line: &mut [u8])
 }
 
 pub fn row(plan: Plan, row: u32, data: &[u8], line: &mut [u8]) -> RowAnswer
-    ensures { λ r. ⌜ r ≡ rowGiven (now («data» .entry)) plan row (now (line .entry)) ⌝ }
-    ensures { λ _. ⌜ now (line .exit) ≡ rowWritten (now («data» .entry)) plan row (now (line .entry)) ⌝ }
+    ensures { λ r. ⌜ r ≡ planGiven (now («data» .entry)) plan row (now (line .entry)) ⌝ }
+    ensures { λ _. ⌜ now (line .exit) ≡ planWritten (now («data» .entry)) plan row (now (line .entry)) ⌝ }
 {
-    let number = row_refusal(plan, row, data.len(), line.len());
+    let good = good_plan(plan, data.len());
+    let number = refusal_of(good, plan.width, plan.height, row, line.len());
     if number != DONE {
         return RowAnswer { number, ink: 0 };
     }

@@ -30,7 +30,7 @@ given c = row-given _ _ _ _ _ _ _ (c .pre)
 
 -- an entry of a good plan may be drawn on any canvas of its width
 entry-good : (c : tie.Start Inv-loop μ-loop) (i : ℕ) → let p = c .args .t1 in i < p .count → goodEntry (p .width) limit (length (now (c .args .«data»))) (getD (p .entries) i noEntry) ≡ true
-entry-good c i h = let p = c .args .t1 in let g = given c .good in good-wider _ _ _ _ (g .tall) (good-at (p .width) (p .height) _ (p .entries) (p .count) i h (g .entries))
+entry-good c i h = let p = c .args .t1 in let g = given c .good in good-wider _ _ _ _ (g .sizes .tall) (good-at (p .width) (p .height) _ (p .entries) (p .count) i h (g .entries))
 
 cast-wide : tie.Need-cast-wide Inv-loop μ-loop
 cast-wide c = search needs
@@ -42,17 +42,17 @@ loop-holds : tie.Need-loop-holds Inv-loop μ-loop
 loop-holds c = applied-start _ _ _ _ _ _
 
 mul-e : tie.Need-mul-e Inv-loop μ-loop
-mul-e c = omega (arith, given (c .before .before .before .before .before .before .before .before .before) .good .few)
+mul-e c = omega (arith, given (c .before .before .before .before .before .before .before .before .before) .good .sizes .few)
 
 element-copy-out-e : tie.Need-element-copy-out-e Inv-loop μ-loop
-element-copy-out-e c = omega (arith, given (c .before .before .before .before .before .before .before .before .before) .good .few)
+element-copy-out-e c = omega (arith, given (c .before .before .before .before .before .before .before .before .before) .good .sizes .few)
 
 draw-entry-requires : tie.Need-draw-entry-requires Inv-loop μ-loop
 draw-entry-requires c κs =
     let l = c .before .before .before .loop in
     let s = c .before .before .before .before .before .before .before .before .before .before .before in
     let g = given s in
-    (record { some = g .good .some; wide = g .good .wide; last = omega (arith, g .below, g .good .tall); room = omega (arith, g .room, l .inv .same) }, entry-good s (l .i) (omega arith))
+    (record { some = g .good .sizes .some; wide = g .good .sizes .wide; last = omega (arith, g .below, g .good .sizes .tall); room = omega (arith, g .room, l .inv .same) }, entry-good s (l .i) (omega arith))
 
 add-i : tie.Need-add-i Inv-loop μ-loop
 add-i c = search needs
@@ -61,7 +61,7 @@ loop-less : tie.Need-loop-less Inv-loop μ-loop
 loop-less c = omega arith
 
 loop-again : tie.Need-loop-again Inv-loop μ-loop
-loop-again c = let l = c .before .before .before .before .before .before .loop in applied-next _ _ _ _ _ _ (given (c .before .before .before .before .before .before .before .before .before .before .before .before .before .before) .good .some) (l .inv) (c .before .before .before .before .before .loop-test .taken) (c .before .before .draw-entry .ensures)
+loop-again c = let l = c .before .before .before .before .before .before .loop in applied-next _ _ _ _ _ _ (given (c .before .before .before .before .before .before .before .before .before .before .before .before .before .before) .good .sizes .some) (l .inv) (c .before .before .before .before .before .loop-test .taken) (c .before .before .draw-entry .ensures)
 
 same-length : tie.Need-same-length Inv-loop μ-loop
 same-length c = omega (arith, c .before .loop .inv .same)

@@ -1,9 +1,10 @@
 -- `rows::row` meets its contract. Assumes nothing.
-use mathlib.Core.Path.{sym, _∙_}
+use mathlib.Core.Path.{_≡_, ap, sym, _∙_}
+use mathlib.Core.Bool.{Bool}
 use native.Mathlib.Omega.{arith}
 use lib.ListN.{length}
 use denote.Ref.{now}
-use Rattle.rows.specs.Rows.{used}
+use Rattle.rows.specs.Rows.{refusalOf, used, planRefusal}
 use Rattle.rows.proofs.Rules.{Given, row-given}
 use Rattle.rows.proofs.Answers.{row-refused, row-kept, row-drawn, row-answered}
 use borrow.Author.Needs.{needs}
@@ -12,23 +13,30 @@ use Rattle.rows.proofs.row.Tie as tie
 use Rattle.rows.proofs.row.Reads as reads
 use Rattle.rows.proofs.row.Lts as lts
 use Rattle.rows.proofs.draw_row.Reads as draw-row-reads
+use Rattle.rows.proofs.good_plan.Reads as good-plan-reads
 use Rattle.rows.proofs.ink_of.Reads as ink-of-reads
-use Rattle.rows.proofs.row_refusal.Reads as row-refusal-reads
+use Rattle.rows.proofs.refusal_of.Reads as refusal-of-reads
 
-given : (c : tie.Else1) → let a = c .before .before .before .before .args in Given (a .plan .width) (a .plan .height) (length (now (a .«data»))) (a .plan .count) (used (a .plan)) (a .row) (length (now (a .line)))
-given c = row-given _ _ _ _ _ _ _ (sym (c .before .row-refusal .ensures) ∙ c .if1 .left)
+decided : (c : tie.After-refusal-of) → let a = c .before .before .before .before .args in c .refusal-of .result ≡ planRefusal (a .plan) (a .row) (length (now (a .«data»))) (length (now (a .line)))
+decided c = let a = c .before .before .before .before .args in c .refusal-of .ensures ∙ ap (λ (g : Bool). refusalOf g (a .plan .width) (a .plan .height) (a .row) (length (now (a .line)))) (c .before .good-plan .ensures)
 
-row-refusal-requires : tie.Need-row-refusal-requires
-row-refusal-requires c κs = search needs
+given : (c : tie.Else1) → let a = c .before .before .before .before .before .args in Given (a .plan .width) (a .plan .height) (length (now (a .«data»))) (a .plan .count) (used (a .plan)) (a .row) (length (now (a .line)))
+given c = row-given _ _ _ _ _ _ _ (sym (decided (c .before)) ∙ c .if1 .left)
+
+good-plan-requires : tie.Need-good-plan-requires
+good-plan-requires c κs = search needs
+
+refusal-of-requires : tie.Need-refusal-of-requires
+refusal-of-requires c κs = search needs
 
 returns : tie.Need-returns
 returns c =
-    let a = c .before .before .before .before .args in
-    let e = c .before .row-refusal .ensures in
-    (row-refused (now (a .«data»)) (a .plan) (a .row) (a .line .now) e (c .if1 .taken), row-kept (now (a .«data»)) (a .plan) (a .row) (a .line .now) e (c .if1 .taken))
+    let a = c .before .before .before .before .before .args in
+    let e = decided (c .before) in
+    (row-refused _ _ _ (a .plan .«paper_color») _ _ _ _ e (c .if1 .taken), row-kept _ _ _ (a .plan .«paper_color») _ _ _ _ e (c .if1 .taken))
 
 draw-row-requires : tie.Need-draw-row-requires
-draw-row-requires c κs = sym (c .before .before .row-refusal .ensures) ∙ c .before .if1 .left
+draw-row-requires c κs = sym (decided (c .before .before)) ∙ c .before .if1 .left
 
 cast-ink-of : tie.Need-cast-ink-of
 cast-ink-of c = search needs
@@ -36,7 +44,7 @@ cast-ink-of c = search needs
 ink-of-requires : tie.Need-ink-of-requires
 ink-of-requires c κs =
     let g = given (c .before .before .before .before .before .before) in
-    (omega (arith, g .room), g .good .wide)
+    (omega (arith, g .room), g .good .sizes .wide)
 
 same-length : tie.Need-same-length
 same-length c = omega arith
@@ -44,16 +52,17 @@ same-length c = omega arith
 returns-2 : tie.Need-returns-2
 returns-2 c =
     let b = c .before .before .before .before .before .before .before in
-    let a = b .before .before .before .before .args in
-    let e = b .before .row-refusal .ensures in
+    let a = b .before .before .before .before .before .args in
+    let e = decided (b .before) in
     let d = c .before .before .before .before .before .draw-row .ensures in
-    (row-answered (now (a .«data»)) (a .plan) (a .row) (a .line .now) e (b .if1 .left) d (c .ink-of .ensures), row-drawn (now (a .«data»)) (a .plan) (a .row) (a .line .now) e (b .if1 .left) d)
+    (row-answered _ _ _ (a .plan .«paper_color») _ _ _ _ e (b .if1 .left) d (c .ink-of .ensures), row-drawn _ _ _ (a .plan .«paper_color») _ _ _ _ e (b .if1 .left) d)
 
 pub row-spec : {M : Type 1} → statement M
 row-spec =
     tie.close
     (tie.spec
-    row-refusal-requires
+    good-plan-requires
+    refusal-of-requires
     returns
     draw-row-requires
     cast-ink-of
