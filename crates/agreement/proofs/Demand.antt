@@ -10,7 +10,7 @@ use Rattle.plan.specs.declared.Plan.{Plan}
 use Rattle.plan.specs.declared.Translated.{Translated}
 use Rattle.plan.specs.Plan.{planOf, translated}
 use Rattle.rows.specs.declared.RowAnswer.{RowAnswer}
-use Rattle.rows.specs.Rows.{rowWritten, rowGiven}
+use Rattle.rows.specs.Rows.{planWritten, planGiven}
 use Rattle.runs.specs.declared.Ran.{Ran}
 use Rattle.runs.specs.Run.{ran, ranWith, runCanvas, runOn}
 use Rattle.agreement.specs.Agreement.{Run, Translate, Row, Plannable, Same, Demand3}
@@ -24,7 +24,7 @@ run-is s l r m c = rw (← c .given .0, ← c .given .1, ← c .left) (c .kept)
 translate-is : (s : List ℕ) (t : Translated) → Translate s t → t ≡ translated s
 translate-is s t c = rw (← c .given) (c .kept)
 
-row-is : (p : Plan) (j : ℕ) (s l : List ℕ) (a : RowAnswer) (m : List ℕ) → Row p j s l a m → (a ≡ rowGiven s p j l) × (m ≡ rowWritten s p j l)
+row-is : (p : Plan) (j : ℕ) (s l : List ℕ) (a : RowAnswer) (m : List ℕ) → Row p j s l a m → (a ≡ planGiven s p j l) × (m ≡ planWritten s p j l)
 row-is p j s l a m c = rw (← c .given .0, ← c .given .1, ← c .given .2, ← c .given .3, ← c .left) (c .kept)
 
 -- ---- the run's answer and the translation's, of a job that can be planned

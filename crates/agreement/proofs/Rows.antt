@@ -14,7 +14,7 @@ use Rattle.job.specs.Commands.{paperWidth, commands}
 use Rattle.job.specs.Dropping.{mostCommands, numberOf, jobRefusal, jobHeight, keptOf, jobDropped, padded}
 use Rattle.job.proofs.Walk.{good}
 use Rattle.plan.specs.Plan.{entriesOf, translateRefusal, planOf, translated}
-use Rattle.rows.specs.Rows.{rowOn, ink, used, planRefusal, rowWritten, rowGiven}
+use Rattle.rows.specs.Rows.{rowOn, ink, rowWritten, rowGiven, used, planRefusal, planWritten, planGiven}
 use Rattle.rows.proofs.Rules.{given-row, firsts-all}
 use Rattle.thermal_image.specs.Canvas.{first, roomRefusal, written}
 use Rattle.runs.specs.Run.{runRefusal, runPicture, runCanvas, ranWith, ran, runOn}
@@ -75,25 +75,25 @@ module _ (s : List ℕ) (g : Plannable s) where
     unfolding runOn written
     run-dot i a = rw (run-done (length buf) room) (shown-dot (paperWidth s) (jobHeight s) (runPicture s) buf (omega arith) i j a h)
 
-    row-dot : (i : ℕ) → i < paperWidth s → dotAt (rowWritten s (planOf s) j line) i ≡ runPicture s i j
+    row-dot : (i : ℕ) → i < paperWidth s → dotAt (planWritten s (planOf s) j line) i ≡ runPicture s i j
     unfolding rowWritten rowOn planOf
     row-dot i a =
         rw (row-done j (length line) h r)
         (change-picked _ _ line i (within-yes 0 (paperWidth s) i (omega arith) a) (omega arith) ∙ rw used-all (dots-agree s i j a (g .plain)))
 
-    same-dot : (i : ℕ) → i < paperWidth s → dotAt (rowWritten s (planOf s) j line) i ≡ dotAt (runOn s buf) (j * paperWidth s + i)
+    same-dot : (i : ℕ) → i < paperWidth s → dotAt (planWritten s (planOf s) j line) i ≡ dotAt (runOn s buf) (j * paperWidth s + i)
     same-dot i a = row-dot i a ∙ sym (run-dot i a)
 
     -- the ink is that of what was written
-    ink-of : rowGiven s (planOf s) j line .ink ≡ ink (paperWidth s) (rowWritten s (planOf s) j line)
+    ink-of : planGiven s (planOf s) j line .ink ≡ ink (paperWidth s) (planWritten s (planOf s) j line)
     unfolding rowGiven rowWritten planOf
     ink-of = rw (row-done j (length line) h r)
 
-    number-of : rowGiven s (planOf s) j line .number ≡ done
+    number-of : planGiven s (planOf s) j line .number ≡ done
     unfolding rowGiven
     number-of = row-done j (length line) h r
 
-    pub same-row : SameRow (paperWidth s) j (runOn s buf) (rowGiven s (planOf s) j line) (rowWritten s (planOf s) j line)
+    pub same-row : SameRow (paperWidth s) j (runOn s buf) (planGiven s (planOf s) j line) (planWritten s (planOf s) j line)
     same-row =
         let W : ℕ = paperWidth s in
         record {

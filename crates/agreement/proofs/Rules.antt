@@ -68,9 +68,11 @@ unfolding keptOf jobHeight
 plan-rules s b g =
     let r = keeps (paperWidth s) 0 (commands s) in
     record {
-      some = g .some;
-      wide = g .wide;
-      tall = keeps-fits r (omega arith);
-      few = omega (arith, entries-few (paperWidth s) (keptOf s), kept-few r, ap length (g .commands), g .few);
+      sizes = record {
+        some = g .some;
+        wide = g .wide;
+        tall = keeps-fits r (omega arith);
+        few = omega (arith, entries-few (paperWidth s) (keptOf s), kept-few r, ap length (g .commands), g .few);
+      };
       entries = entries-good s r (commands-sane s b g);
     }

@@ -82,8 +82,8 @@ module _ (W H n : ℕ) where
     plan-good e = let a = both (goodSizes W H count) _ e in record { sizes = sizes-good W H count (a .0); entries = a .1 }
 
     pub good-plan : Good → goodPlan W H n count es ≡ true
-    unfolding goodPlan
-    good-plan g = rw (le-leb 1 W (g .some), le-leb W limit (g .wide), le-leb H limit (g .tall), le-leb count 64 (g .few)) (g .entries)
+    unfolding goodPlan goodSizes
+    good-plan g = let z = g .sizes in rw (le-leb 1 W (z .some), le-leb W limit (z .wide), le-leb H limit (z .tall), le-leb count mostCommands (z .few)) (g .entries)
 
     -- a row that is not refused
     pub record Given (row size : ℕ) : Type 0 where
@@ -103,7 +103,7 @@ module _ (W H n : ℕ) where
         by false p b q c r e = absurd (omega arith)
 
     pub given-row : (row room : ℕ) → Given row room → rowRefusal W H n count es row room ≡ done
-    unfolding rowRefusal
+    unfolding refusalOf
     given-row row room g = rw (good-plan (g .good), lt-leb H row (g .below), le-ltb room (4 * W) (omega (arith, g .room)))
 
 -- the first entries of a list that goes on

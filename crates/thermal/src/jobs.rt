@@ -3,7 +3,7 @@
 ghost use mathlib.Core.Path.{_≡_};
 ghost use lib.ListN.{length};
 ghost use Rattle.plan.specs.Plan.{translated};
-ghost use Rattle.rows.specs.Rows.{rowWritten, rowGiven};
+ghost use Rattle.rows.specs.Rows.{planWritten, planGiven};
 ghost use Rattle.runs.specs.Run.{ran, runOn};
 use plan::Plan;
 use plan::Translated;
@@ -27,8 +27,8 @@ pub extern "C" fn thermal_translate(job: &[u8]) -> Translated
 
 #[no_mangle]
 pub extern "C" fn thermal_row(plan: Plan, row: u32, data: &[u8], line: &mut [u8]) -> RowAnswer
-    ensures { λ r. ⌜ r ≡ rowGiven (now («data» .entry)) plan row (now (line .entry)) ⌝ }
-    ensures { λ _. ⌜ now (line .exit) ≡ rowWritten (now («data» .entry)) plan row (now (line .entry)) ⌝ }
+    ensures { λ r. ⌜ r ≡ planGiven (now («data» .entry)) plan row (now (line .entry)) ⌝ }
+    ensures { λ _. ⌜ now (line .exit) ≡ planWritten (now («data» .entry)) plan row (now (line .entry)) ⌝ }
 {
     rows::row(plan, row, data, line)
 }
