@@ -1,6 +1,6 @@
 -- Rows of a plan and rows of the canvas, as bytes. Assumes nothing.
-use Prim.Native.Nat.{ℕ, zero, suc, _+_, _*_, _≤_, _<_}
-use mathlib.Core.Path.{_≡_, refl, ap, sym, _∙_}
+use Prim.Native.Nat.{ℕ, _+_, _*_, _≤_, _<_}
+use mathlib.Core.Path.{_≡_, ap, sym, _∙_}
 use mathlib.Core.List.{List}
 use native.Mathlib.Omega.{arith}
 use borrow.Author.Tests.{le-ltb}
@@ -9,13 +9,13 @@ use lib.Seq.{getD-drop}
 use Rattle.numbers.specs.Numbers.{done}
 use Rattle.colour.proofs.Laws.{rgba-eq}
 use Rattle.dots.specs.Dots.{dotAt}
-use Rattle.dots.proofs.Laws.{change-picked, within-yes}
-use Rattle.job.specs.Commands.{paperWidth, commands}
+use Rattle.job.specs.Commands.{paperWidth, paperColor, commands}
 use Rattle.job.specs.Dropping.{mostCommands, numberOf, jobRefusal, jobHeight, keptOf, jobDropped, padded}
 use Rattle.job.proofs.Walk.{good}
 use Rattle.plan.specs.Plan.{entriesOf, translateRefusal, planOf, translated}
-use Rattle.rows.specs.Rows.{rowOn, ink, rowWritten, rowGiven, used, planRefusal, planWritten, planGiven}
+use Rattle.rows.specs.Rows.{ink, rowWritten, rowGiven, used, planRefusal, planWritten, planGiven}
 use Rattle.rows.proofs.Rules.{given-row, firsts-all}
+use Rattle.rows.proofs.Answers.{ink-dots, row-dot}
 use Rattle.thermal_image.specs.Canvas.{first, roomRefusal, written}
 use Rattle.runs.specs.Run.{runRefusal, runPicture, runCanvas, ranWith, ran, runOn}
 use Rattle.runs.proofs.Pictures.{shown-dot}
@@ -23,13 +23,7 @@ use Rattle.agreement.specs.Agreement.{Plannable, SameRow}
 use Rattle.agreement.proofs.Pictures.{dots-agree}
 use Rattle.agreement.proofs.Rules.{plan-rules}
 
--- ---- ink is counted dot by dot
-
-ink-same : (n : ℕ) (l m : List ℕ) → ((i : ℕ) → i < n → dotAt l i ≡ dotAt m i) → ink n l ≡ ink n m
-unfolding ink
-ink-same zero l m h = refl
-ink-same (suc n) l m h = rw (ink-same n l m (λ i b. h i (omega arith)), h n (omega arith))
-
+-- a dot of what is left of a buffer
 dot-drop : (l : List ℕ) (k i : ℕ) → dotAt (drop (k * 4) l) i ≡ dotAt l (k + i)
 dot-drop l k i = rgba-eq (at (i * 4) (omega arith)) (at (i * 4 + 1) (omega arith)) (at (i * 4 + 2) (omega arith)) (at (i * 4 + 3) (omega arith))
   where
@@ -75,14 +69,14 @@ module _ (s : List ℕ) (g : Plannable s) where
     unfolding runOn written
     run-dot i a = rw (run-done (length buf) room) (shown-dot (paperWidth s) (jobHeight s) (runPicture s) buf (omega arith) i j a h)
 
-    row-dot : (i : ℕ) → i < paperWidth s → dotAt (planWritten s (planOf s) j line) i ≡ runPicture s i j
-    unfolding rowWritten rowOn planOf
-    row-dot i a =
+    plan-dot : (i : ℕ) → i < paperWidth s → dotAt (planWritten s (planOf s) j line) i ≡ runPicture s i j
+    unfolding rowWritten planOf
+    plan-dot i a =
         rw (row-done j (length line) h r)
-        (change-picked _ _ line i (within-yes 0 (paperWidth s) i (omega arith) a) (omega arith) ∙ rw used-all (dots-agree s i j a (g .plain)))
+        (row-dot s (paperWidth s) (paperColor s) _ j line i a (omega arith) ∙ rw used-all (dots-agree s i j a (g .plain)))
 
     same-dot : (i : ℕ) → i < paperWidth s → dotAt (planWritten s (planOf s) j line) i ≡ dotAt (runOn s buf) (j * paperWidth s + i)
-    same-dot i a = row-dot i a ∙ sym (run-dot i a)
+    same-dot i a = plan-dot i a ∙ sym (run-dot i a)
 
     -- the ink is that of what was written
     ink-of : planGiven s (planOf s) j line .ink ≡ ink (paperWidth s) (planWritten s (planOf s) j line)
@@ -99,5 +93,5 @@ module _ (s : List ℕ) (g : Plannable s) where
         record {
           number = number-of;
           dot = same-dot;
-          ink = ink-of ∙ ink-same W _ _ (λ i a. same-dot i a ∙ sym (dot-drop (runOn s buf) (j * W) i));
+          ink = ink-of ∙ ink-dots W _ _ (λ i a. same-dot i a ∙ sym (dot-drop (runOn s buf) (j * W) i));
         }

@@ -48,12 +48,12 @@ same-row s p row l = rw (length-firsts (p .count) (p .entries))
 
 -- ---- the ink of a row is the same in every buffer that has room for it
 
-ink-dots : (n : ℕ) (l m : List ℕ) → ((i : ℕ) → i < n → dotAt l i ≡ dotAt m i) → ink n l ≡ ink n m
+pub ink-dots : (n : ℕ) (l m : List ℕ) → ((i : ℕ) → i < n → dotAt l i ≡ dotAt m i) → ink n l ≡ ink n m
 unfolding ink
 ink-dots zero l m f = refl
 ink-dots (suc n) l m f = rw (ink-dots n l m (λ i h. f i (omega arith)), f n (omega arith))
 
-row-dot : (s : List ℕ) (W : ℕ) (paper : RGBA) (es : List Entry) (row : ℕ) (l : List ℕ) (i : ℕ) → i < W → W * 4 ≤ length l → dotAt (rowOn s W paper es row l) i ≡ entriesOn s es i row paper
+pub row-dot : (s : List ℕ) (W : ℕ) (paper : RGBA) (es : List Entry) (row : ℕ) (l : List ℕ) (i : ℕ) → i < W → W * 4 ≤ length l → dotAt (rowOn s W paper es row l) i ≡ entriesOn s es i row paper
 unfolding rowOn
 row-dot s W paper es row l i h r = change-picked (within 0 W) _ l i (within-yes 0 W i (omega arith) h) (omega arith)
 

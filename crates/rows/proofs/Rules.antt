@@ -83,7 +83,9 @@ module _ (W H n : ℕ) where
 
     pub good-plan : Good → goodPlan W H n count es ≡ true
     unfolding goodPlan goodSizes
-    good-plan g = let z = g .sizes in rw (le-leb 1 W (z .some), le-leb W limit (z .wide), le-leb H limit (z .tall), le-leb count mostCommands (z .few)) (g .entries)
+    good-plan g =
+        let z = g .sizes in
+        rw (le-leb 1 W (z .some), le-leb W limit (z .wide), le-leb H limit (z .tall), le-leb count mostCommands (z .few)) (g .entries)
 
     -- a row that is not refused
     pub record Given (row size : ℕ) : Type 0 where
