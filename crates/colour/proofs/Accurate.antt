@@ -31,7 +31,12 @@ round-away-value (inf s) a c C h = absurd h
 round-away-value (fin s m e) a c C h = div-same (2 * (m * up e) + down e) (2 * down e) (2 * a + c) (2 * c) (mul-pos (lit< tt) (down-pos e)) (mul-pos (lit< tt) C) (cross (m * up e) (down e) a c (h .1))
 
 -- ---- the error of a value near n / 65025, rounded
-module _ (g L n : ℕ) (L+ : 0 < L) (n-small : n ≤ 16581375) (most : g * 16581375 * 1073741824 ≤ n * 255 * L * 1073742213) (least : n * 255 * L * 1073741440 ≤ g * 16581375 * 1073741824) where
+
+-- r is within a half of a value within 389 parts in 2 ^ 30 of n / 65025. Both sides are times 130050 * 2 ^ 30
+abbrev pub Close : ℕ → ℕ → Type 0
+Close r n = (139640124211200 * r ≤ 2147484426 * n + 69820062105600) × (2147482880 * n ≤ 139640124211200 * r + 69820062105600)
+
+module _ (g L n : ℕ) (L+ : 0 < L) (most : g * 16581375 * 1073741824 ≤ n * 255 * L * 1073742213) (least : n * 255 * L * 1073741440 ≤ g * 16581375 * 1073741824) where
   r : ℕ
   r = nearest g L
 
@@ -43,42 +48,39 @@ module _ (g L n : ℕ) (L+ : 0 < L) (n-small : n ≤ 16581375) (most : g * 16581
   unfolding r
   high = omega (arith, lt-div-mul-add {a = 2 * g + L} (mul-pos (lit< {m = 0} {n = 2} tt) L+), mul-left-comm (nearest g L) 2 L)
 
-  nL : n * L ≤ 16581375 * L
-  nL = mul-le-mul-right L n-small
-
   most' : g * 65025 * 1073741824 ≤ n * L * 1073742213
   most' = omega (arith, most, mul-right-comm n 255 L)
 
   least' : n * L * 1073741440 ≤ g * 65025 * 1073741824
   least' = omega (arith, least, mul-right-comm n 255 L)
 
-  upper : 130050 * r ≤ 2 * n + 65041
-  upper =
+  -- an order between sums, of which every term has the factor L
+  without : (p q k x y : ℕ) → p * (x * L) ≤ q * (y * L) + k * L → p * x ≤ q * y + k
+  without p q k x y h =
       le-of-mul-le-mul-right
-      (let x : 130050 * (r * L) ≤ 2 * (n * L) + 65041 * L = omega (arith, low, nL, most') in
-      le-trans (le-of-eq (mul-assoc 130050 r L)) (le-trans x (le-of-eq (ap (λ (z : ℕ). z + 65041 * L) (sym (mul-assoc 2 n L)) ∙ sym (add-mul (2 * n) 65041 L))))) L+
+      (le-trans (le-of-eq (mul-assoc p x L)) (le-trans h (le-of-eq (ap (λ (z : ℕ). z + k * L) (sym (mul-assoc q y L)) ∙ sym (add-mul (q * y) k L))))) L+
 
-  lower : 2 * n ≤ 130050 * r + 65041
-  lower =
-      le-of-mul-le-mul-right
-      (let x : 2 * (n * L) ≤ 130050 * (r * L) + 65041 * L = omega (arith, high, nL, least') in
-      le-trans (le-of-eq (mul-assoc 2 n L)) (le-trans x (le-of-eq (ap (λ (z : ℕ). z + 65041 * L) (sym (mul-assoc 130050 r L)) ∙ sym (add-mul (130050 * r) 65041 L))))) L+
-
-  pub error : (130050 * nearest g L ≤ 2 * n + 65041) × (2 * n ≤ 130050 * nearest g L + 65041)
+  pub close : Close (nearest g L) n
   unfolding r
-  error = (upper, lower)
+  close = (without 139640124211200 2147484426 69820062105600 r n (omega (arith, low, most')), without 2147482880 139640124211200 69820062105600 n r (omega (arith, high, least')))
 
 -- ---- the theorems
 
-scale : (s c a : ℕ) → s ≤ 255 → c ≤ 255 → a ≤ 255 → s * c * a ≤ 16581375
+pub scale : (s c a : ℕ) → s ≤ 255 → c ≤ 255 → a ≤ 255 → s * c * a ≤ 16581375
 scale s c a S C A = mul-le-mul (mul-le-mul S C) A
+
+pub close-product : (s c a : ℕ) → s ≤ 255 → c ≤ 255 → a ≤ 255 → Close (roundAway (product s c a)) (s * c * a)
+close-product s c a S C A =
+    let x = near-product s c a S C A in
+    subst (λ (r : ℕ). Close r (s * c * a)) (sym (round-away-value (product s c a) (x .at) (2 ^ 149) (pow-pos 149) (x .value)))
+    (close (x .at) (2 ^ 149) (s * c * a) (pow-pos 149) (x .most) (x .least))
+
+bounds : (r n : ℕ) → n ≤ 16581375 → Close r n → (130050 * r ≤ 2 * n + 65041) × (2 * n ≤ 130050 * r + 65041)
+bounds r n N h = (omega (arith, h .0), omega (arith, h .1))
 
 pub accurate : (s c a : ℕ) → s ≤ 255 → c ≤ 255 → a ≤ 255
     → (130050 * roundAway (product s c a) ≤ 2 * (s * c * a) + 65041) × (2 * (s * c * a) ≤ 130050 * roundAway (product s c a) + 65041)
-accurate s c a S C A =
-    let x = near-product s c a S C A in
-    subst (λ (r : ℕ). (130050 * r ≤ 2 * (s * c * a) + 65041) × (2 * (s * c * a) ≤ 130050 * r + 65041)) (sym (round-away-value (product s c a) (x .at) (2 ^ 149) (pow-pos 149) (x .value)))
-    (error (x .at) (2 ^ 149) (s * c * a) (pow-pos 149) (scale s c a S C A) (x .most) (x .least))
+accurate s c a S C A = bounds (roundAway (product s c a)) (s * c * a) (scale s c a S C A) (close-product s c a S C A)
 
 pick : (r n : ℕ) → 130050 * r ≤ 2 * (n * 255) + 65041 → 2 * (n * 255) ≤ 130050 * r + 65041 → r ≡ (2 * n + 255) / 510
 pick r n h k = omega arith

@@ -7,6 +7,7 @@ use Rattle.colour.specs.declared.RGBA.{RGBA}
 use Rattle.colour.specs.Channel.{nearest, blendByte, multiplyByte}
 use Rattle.colour.specs.Colour.{rgba, blendedAt, multiplied}
 use Rattle.colour.proofs.Accurate.{at-full-alpha}
+use Rattle.colour.proofs.Halves.{nearest-product}
 
 -- two colours are equal by their parts
 pub rgba-eq : {c d : RGBA} → c .r ≡ d .r → c .g ≡ d .g → c .b ≡ d .b → c .a ≡ d .a → c ≡ d
@@ -49,3 +50,7 @@ multiplied-some c s n er eg eb = rw (ne-eqb (c .a) 0 n, er, eg, eb)
 pub multiply-byte-full : (s c : ℕ) → s ≤ 255 → c ≤ 255 → multiplyByte s c 255 ≡ nearest (s * c) 255
 unfolding multiplyByte
 multiply-byte-full s c hs hc = at-full-alpha s c hs hc
+
+-- at every alpha it is the whole number nearest s·c·a / 65025
+pub multiply-byte-nearest : (s c a : ℕ) → s ≤ 255 → c ≤ 255 → a ≤ 255 → multiplyByte s c a ≡ nearest (s * c * a) 65025
+multiply-byte-nearest s c a hs hc ha = nearest-product s c a hs hc ha

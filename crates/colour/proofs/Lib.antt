@@ -4,6 +4,7 @@ mod Near
 mod Operations
 mod Product
 mod Accurate
+mod Halves
 mod Doubled
 pub mod Laws
 pub mod OneAnswer
