@@ -16,7 +16,7 @@ use dots::mix_run;
 use dots::mix_terms;
 use dots::multiply_run;
 use dots::multiply_table;
-use dots::needs_floats;
+use dots::needs_tables;
 
 // Row by row, with nothing made beforehand.
 fn draw_rows(
@@ -125,7 +125,7 @@ pub fn draw_area(
     if c.a == RGBA::TRANSPARENT {
         return;
     }
-    if needs_floats(c, multiply) {
+    if needs_tables(c, multiply) {
         multiply_area(buf, wide, x, y, w, h, c, multiply);
         return;
     }

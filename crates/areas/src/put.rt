@@ -9,7 +9,7 @@ ghost use Rattle.areas.specs.Rows.{pixelsOn};
 use dots::draw_dot;
 use dots::draw_run;
 use dots::get_dot;
-use dots::set_dot;
+use dots::store_dot;
 
 // Each dot is a run of one, which is soon done where there is nothing to mix.
 fn draw_each(buf: &mut [u8], at: usize, count: usize, pixels: &[u8], from: usize, multiply: bool)
@@ -34,7 +34,7 @@ fn draw_alike(buf: &mut [u8], at: usize, count: usize, pixels: &[u8], from: usiz
         let p = get_dot(pixels, from + i);
         let s = get_dot(buf, at + i);
         let d = draw_dot(s, multiply, p);
-        set_dot(buf, at + i, d);
+        store_dot(buf, at + i, d);
         i += 1;
     }
 }
@@ -48,8 +48,9 @@ fn smaller(a: usize, b: usize) -> usize
     b
 }
 
-// A row for which there may be fewer pixels than dots, or none. Its first pixel tells which way is
-// likely to be the sooner done, and either does the same.
+// A row for which there may be fewer pixels than dots, or none. Multiplied pixels are all to be
+// mixed. Of blended ones the first tells which way is likely to be the sooner done, and either does
+// the same.
 fn put_row(
     buf: &mut [u8],
     at: usize,
@@ -66,6 +67,10 @@ fn put_row(
         return;
     }
     let count = smaller(w, n - from);
+    if multiply {
+        draw_alike(buf, at, count, pixels, from, multiply);
+        return;
+    }
     let first = get_dot(pixels, from);
     match first.a {
         1..=254 => draw_alike(buf, at, count, pixels, from, multiply),

@@ -12,10 +12,10 @@ use lib.Dec.{ltb, eqb}
 use borrow.Author.Tests.{lt-ltb, le-ltb, le-leb, lt-leb, eq-eqb, ne-eqb, ltb-true, ltb-false, eqb-true, eqb-false}
 use Rattle.colour.specs.Choice.{if_then_else_}
 use Rattle.colour.specs.declared.RGBA.{RGBA}
-use Rattle.colour.specs.Colour.{blended, multiplied}
+use Rattle.colour.specs.Colour.{rgba, blended, multiplied}
 use Rattle.colour.proofs.Laws.{rgba-eq, blended-none, blended-full, multiplied-none}
 use Rattle.dots.specs.Dots.{dotAt, setDot, tab, chan, paint, change, within, drawn}
-use Rattle.dots.specs.Tables.{Whole, needsFloats, covers}
+use Rattle.dots.specs.Tables.{Whole, needsTables, covers}
 
 -- a number is below another, or not
 by-test : (a b : ℕ) (t : Bool) → ltb a b ≡ t → (a < b) ⊎ (b ≤ a)
@@ -59,6 +59,11 @@ pub dot-of : (l : List ℕ) (i : ℕ) (d : RGBA) → ((j k : ℕ) → k < 4 → 
 unfolding chan
 dot-of l i d h =
     rgba-eq (h (i * 4) 0 (omega arith) (omega arith)) (h (i * 4 + 1) 1 (omega arith) (omega arith)) (h (i * 4 + 2) 2 (omega arith) (omega arith)) (h (i * 4 + 3) 3 (omega arith) (omega arith))
+
+-- a dot is known by the word that its bytes make
+pub word-dot : (c : RGBA) → c .r ≤ 255 → c .g ≤ 255 → c .b ≤ 255 → c .a ≤ 255
+    → let w = c .r + c .g * 256 + c .b * 65536 + c .a * 16777216 in rgba (w % 256) (w / 256 % 256) (w / 65536 % 256) (w / 16777216) ≡ c
+word-dot c r g b a = rgba-eq (omega arith) (omega arith) (omega arith) (omega arith)
 
 -- ---- a dot written
 
@@ -359,19 +364,19 @@ pub drawn-multiplied : {t : Bool} (c s : RGBA) → t ≡ true → multiplied c s
 unfolding drawn
 drawn-multiplied c s f = rw f
 
-pub floats-multiply : (t : Bool) (c : RGBA) → needsFloats t c ≡ true → t ≡ true
-unfolding needsFloats
-floats-multiply true c e = refl
-floats-multiply false c e = absurd (true≢false (sym e))
+pub tables-multiply : (t : Bool) (c : RGBA) → needsTables t c ≡ true → t ≡ true
+unfolding needsTables
+tables-multiply true c e = refl
+tables-multiply false c e = absurd (true≢false (sym e))
 
-pub no-floats : (t : Bool) (c : RGBA) → 0 < c .a → needsFloats t c ≡ false → Whole t c
-unfolding needsFloats
-no-floats true c h e = record { some = h; full = λ f. go (eqb (c .a) 255) refl e }
+pub no-tables : (t : Bool) (c : RGBA) → 0 < c .a → needsTables t c ≡ false → Whole t c
+unfolding needsTables
+no-tables true c h e = record { some = h; full = λ f. go (eqb (c .a) 255) refl e }
   where
     go : (b : Bool) → eqb (c .a) 255 ≡ b → not b ≡ false → c .a ≡ 255
     go true q z = eqb-true _ _ q
     go false q z = absurd (true≢false z)
-no-floats false c h e = record { some = h; full = λ f. absurd (true≢false (sym f)) }
+no-tables false c h e = record { some = h; full = λ f. absurd (true≢false (sym f)) }
 
 pub covers-full : (t : Bool) (c s : RGBA) → covers t c ≡ true → c ≡ drawn t c s
 unfolding covers

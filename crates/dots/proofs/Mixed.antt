@@ -92,13 +92,12 @@ mixed-multiply : (c s : ℕ) → c ≤ 255 → s ≤ 255 → mixed c 128 s ≡ m
 mixed-multiply c s hc hs = by-256 (s * c) (mul-le-mul hs hc) ∙ sym (multiply-byte-full s c hs hc)
 
 -- a dot multiplied at full alpha, channel by channel
-pub mixed-whole : (c s : RGBA) → Bytes c → Bytes s → c .a ≡ 255 → {r g b : ℕ} → r ≡ mixed (c .r) 128 (s .r) → g ≡ mixed (c .g) 128 (s .g) → b ≡ mixed (c .b) 128 (s .b)
-    → rgba r g b (s .a) ≡ multiplied c s
-mixed-whole c s p q f er eg eb =
-    multiplied-some c s (λ e. omega arith)
-    (er ∙ mixed-multiply (c .r) (s .r) (p .r) (q .r) ∙ ap (multiplyByte (s .r) (c .r)) (sym f))
-    (eg ∙ mixed-multiply (c .g) (s .g) (p .g) (q .g) ∙ ap (multiplyByte (s .g) (c .g)) (sym f))
-    (eb ∙ mixed-multiply (c .b) (s .b) (p .b) (q .b) ∙ ap (multiplyByte (s .b) (c .b)) (sym f))
+mixed-whole : (c s : RGBA) → Bytes c → Bytes s → c .a ≡ 255 → rgba (mixed (c .r) 128 (s .r)) (mixed (c .g) 128 (s .g)) (mixed (c .b) 128 (s .b)) (s .a) ≡ multiplied c s
+mixed-whole c s p q f =
+    multiplied-some c s (λ e. omega arith) (channel (c .r) (s .r) (p .r) (q .r)) (channel (c .g) (s .g) (p .g) (q .g)) (channel (c .b) (s .b) (p .b) (q .b))
+  where
+    channel : (x y : ℕ) → x ≤ 255 → y ≤ 255 → mixed x 128 y ≡ multiplyByte y x (c .a)
+    channel x y hx hy = mixed-multiply x y hx hy ∙ ap (multiplyByte y x) (sym f)
 
 mixed-kept : (s : ℕ) → s ≤ 255 → mixed 255 128 s ≡ s
 mixed-kept s h = omega arith
@@ -113,7 +112,7 @@ mixedDot t c s =
 -- it is s with c drawn on it
 pub mixed-drawn : (t : Bool) (c s : RGBA) → Bytes c → Bytes s → Whole t c → mixedDot t c s ≡ drawn t c s
 unfolding factors terms drawn
-mixed-drawn true c s p q w = rw (mixed-kept (s .a) (q .a)) (mixed-whole c s p q (w .full refl) refl refl refl)
+mixed-drawn true c s p q w = rw (mixed-kept (s .a) (q .a)) (mixed-whole c s p q (w .full refl))
 mixed-drawn false c s p q w = go (eqb (c .a) 255) refl
   where
     new : ℕ → ℕ → ℕ

@@ -3,10 +3,11 @@ use denote.Ref.{now}
 use Rattle.colour.proofs.OneAnswer.{OneAnswer, OneContent, both}
 use Rattle.dots.proofs.dot.get_dot.Reads as get-dot
 use Rattle.dots.proofs.dot.set_dot.Reads as set-dot
+use Rattle.dots.proofs.dot.store_dot.Reads as store-dot
 use Rattle.dots.proofs.fill.fill_run.Reads as fill-run
 use Rattle.dots.proofs.draw.draw_dot.Reads as draw-dot
 use Rattle.dots.proofs.draw.draw_run.Reads as draw-run
-use Rattle.dots.proofs.draw.needs_floats.Reads as needs-floats
+use Rattle.dots.proofs.draw.needs_tables.Reads as needs-tables
 use Rattle.dots.proofs.draw.covers.Reads as covers
 use Rattle.dots.proofs.mix.mix_byte.Reads as mix-byte
 use Rattle.dots.proofs.mix.mix_factors.Reads as mix-factors
@@ -21,6 +22,9 @@ get-dot-one k a x y e f p q = both p q
 set-dot-one : OneContent set-dot.Post (λ k e. now (e .0))
 set-dot-one k a x y e f p q = both p q
 
+store-dot-one : OneContent store-dot.Post (λ k e. now (e .0))
+store-dot-one k a x y e f p q = both p q
+
 fill-run-one : OneContent fill-run.Post (λ k e. now (e .0))
 fill-run-one k a x y e f p q = both p q
 
@@ -30,8 +34,8 @@ draw-dot-one k a x y e f p q = both p q
 draw-run-one : OneContent draw-run.Post (λ k e. now (e .0))
 draw-run-one k a x y e f p q = both p q
 
-needs-floats-one : OneAnswer needs-floats.Post
-needs-floats-one k a x y e f p q = both p q
+needs-tables-one : OneAnswer needs-tables.Post
+needs-tables-one k a x y e f p q = both p q
 
 covers-one : OneAnswer covers.Post
 covers-one k a x y e f p q = both p q

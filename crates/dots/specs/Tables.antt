@@ -14,20 +14,20 @@ use Rattle.dots.specs.Dots.{tab, chan}
 unfoldable pub lanes : RGBA → List ℕ
 lanes x = tab 64 (λ j. chan x (j % 4))
 
--- a colour that is drawn by whole numbers: blending, or multiplying at full alpha
+-- a colour that is drawn by factors and terms: blending, or multiplying at full alpha
 pub record Whole (multiply : Bool) (c : RGBA) : Type 0 where
   pub some : 0 < c .a
   pub full : multiply ≡ true → c .a ≡ 255
 
--- multiplying below full alpha asks for the f32 operations
-unfoldable pub needsFloats : Bool → RGBA → Bool
-needsFloats multiply c = multiply && not (eqb (c .a) 255)
+-- multiplying below full alpha outgrows factors and terms of 16 bits
+unfoldable pub needsTables : Bool → RGBA → Bool
+needsTables multiply c = multiply && not (eqb (c .a) 255)
 
 -- an opaque colour that is blended covers what was there
 unfoldable pub covers : Bool → RGBA → Bool
 covers multiply c = not multiply && eqb (c .a) 255
 
--- a byte s under a colour drawn by whole numbers becomes the whole number nearest (s·factor + term − 128) / 255. The alpha byte becomes 255 under an opaque blend, and else stays
+-- a byte s under a colour drawn by factors and terms becomes the whole number nearest (s·factor + term − 128) / 255. The alpha byte becomes 255 under an opaque blend, and else stays
 unfoldable pub factors : Bool → RGBA → RGBA
 factors multiply c = if multiply then rgba (c .r) (c .g) (c .b) 255 else rgba (255 - c .a) (255 - c .a) (255 - c .a) (if eqb (c .a) 255 then 0 else 255)
 

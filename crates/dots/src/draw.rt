@@ -3,41 +3,18 @@ ghost use mathlib.Core.Path.{_≡_};
 ghost use mathlib.Core.Bool.{true};
 ghost use Prim.Native.Nat.{_+_, _*_, _≤_, _<_};
 ghost use lib.ListN.{length};
-ghost use Rattle.colour.specs.Colour.{multiplied};
 ghost use Rattle.dots.specs.Dots.{change, within, drawn};
-ghost use Rattle.dots.specs.Tables.{needsFloats, covers};
+ghost use Rattle.dots.specs.Tables.{needsTables, covers};
 use super::dot::get_dot;
 use super::dot::set_dot;
 use super::fill::fill_run;
-use super::mix::mix_byte;
 use super::mix::mix_factors;
 use super::mix::mix_run;
 use super::mix::mix_terms;
+use super::multiply::multiply_dot;
 use super::multiply::multiply_run;
 use super::multiply::multiply_table;
 use colour::RGBA;
-
-// Multiplying at full alpha, by whole numbers.
-fn multiply_whole(s: RGBA, c: RGBA) -> RGBA
-    requires { ⌜ c .a ≡ 255 ⌝ }
-    ensures { λ r. ⌜ r ≡ multiplied c s ⌝ }
-{
-    RGBA {
-        r: mix_byte(s.r, c.r as u16, 128),
-        g: mix_byte(s.g, c.g as u16, 128),
-        b: mix_byte(s.b, c.b as u16, 128),
-        a: s.a,
-    }
-}
-
-fn multiply_dot(s: RGBA, c: RGBA) -> RGBA
-    ensures { λ r. ⌜ r ≡ multiplied c s ⌝ }
-{
-    if c.a == RGBA::OPAQUE {
-        return multiply_whole(s, c);
-    }
-    s.multiply_foreground(c)
-}
 
 pub fn draw_dot(s: RGBA, multiply: bool, c: RGBA) -> RGBA
     ensures { λ r. ⌜ r ≡ drawn multiply c s ⌝ }
@@ -67,12 +44,13 @@ fn draw_few(buf: &mut [u8], at: usize, count: usize, multiply: bool, c: RGBA)
 // dots one by one.
 pub const TABLE_DOTS: usize = 280;
 
-// The same for the arrays of whole numbers.
+// The same for the arrays of 16-bit numbers.
 const LANE_DOTS: usize = 8;
 
-// Multiplying below full alpha asks for the f32 operations. All else is done by whole numbers.
-pub fn needs_floats(c: RGBA, multiply: bool) -> bool
-    ensures { λ r. ⌜ r ≡ needsFloats multiply c ⌝ }
+// Multiplying below full alpha goes by tables where there are many dots. All else goes by the arrays
+// of 16-bit numbers, which it would outgrow.
+pub fn needs_tables(c: RGBA, multiply: bool) -> bool
+    ensures { λ r. ⌜ r ≡ needsTables multiply c ⌝ }
 {
     if multiply {
         return c.a != RGBA::OPAQUE;
@@ -111,7 +89,7 @@ pub fn draw_run(buf: &mut [u8], at: usize, count: usize, multiply: bool, c: RGBA
     if c.a == RGBA::TRANSPARENT {
         return;
     }
-    if needs_floats(c, multiply) {
+    if needs_tables(c, multiply) {
         multiply_some(buf, at, count, multiply, c);
         return;
     }

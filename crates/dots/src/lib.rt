@@ -8,11 +8,12 @@ mod multiply;
 
 pub use dot::get_dot;
 pub use dot::set_dot;
+pub use dot::store_dot;
 pub use draw::TABLE_DOTS;
 pub use draw::covers;
 pub use draw::draw_dot;
 pub use draw::draw_run;
-pub use draw::needs_floats;
+pub use draw::needs_tables;
 pub use fill::fill_run;
 pub use mix::mix_byte;
 pub use mix::mix_factors;

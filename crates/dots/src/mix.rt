@@ -1,5 +1,5 @@
-// A colour drawn over a run of dots by whole numbers: byte by byte against arrays of 64 numbers that
-// are made once, since bytes in a row become vectors and dots of four do not.
+// A colour drawn over a run of dots byte by byte, against arrays of 64 numbers that are made once,
+// since bytes in a row become vectors of 16-bit numbers.
 ghost use mathlib.Core.Path.{_≡_};
 ghost use Prim.Native.Nat.{_+_, _*_, _/_, _≤_};
 ghost use lib.ListN.{length};

@@ -1,7 +1,7 @@
 -- `areas::draw::draw_area` meets its contract. Assumes nothing.
 use native.Mathlib.Omega.{arith}
 use mathlib.Core.Path.{sym, _∙_}
-use Rattle.dots.proofs.Laws.{drawn-none, floats-multiply, no-floats}
+use Rattle.dots.proofs.Laws.{drawn-none, tables-multiply, no-tables}
 use Rattle.areas.proofs.Laws.{area-idle}
 use borrow.Author.Needs.{needs}
 use Rattle.areas.proofs.draw.draw_area.Statement.{statement}
@@ -12,12 +12,12 @@ returns c =
     let a = c .before .before .before .args in
     area-idle _ _ _ _ _ _ (a .buf .now) (λ i j u v. drawn-none (a .multiply) (a .c) _ (c .if1 .taken))
 
-needs-floats-requires : tie.Need-needs-floats-requires
-needs-floats-requires c κs = search needs
+needs-tables-requires : tie.Need-needs-tables-requires
+needs-tables-requires c κs = search needs
 
 multiply-area-requires : tie.Need-multiply-area-requires
 multiply-area-requires c κs =
-    (c .before .before .before .before .before .before .pre, omega arith, floats-multiply _ _ (sym (c .before .before .needs-floats .ensures) ∙ c .before .if2 .taken))
+    (c .before .before .before .before .before .before .pre, omega arith, tables-multiply _ _ (sym (c .before .before .needs-tables .ensures) ∙ c .before .if2 .taken))
 
 same-length : tie.Need-same-length
 same-length c = search needs
@@ -47,7 +47,7 @@ mix-rows-requires : tie.Need-mix-rows-requires
 mix-rows-requires c κs =
     let t = c .before .before .before in
     let w = t .before .before .before .before in
-    ((w .before .before .before .before .before .pre, no-floats _ _ (omega arith) (sym (w .before .needs-floats .ensures) ∙ w .if2 .left)), (t .before .mix-factors .ensures, t .mix-terms .ensures))
+    ((w .before .before .before .before .before .pre, no-tables _ _ (omega arith) (sym (w .before .needs-tables .ensures) ∙ w .if2 .left)), (t .before .mix-factors .ensures, t .mix-terms .ensures))
 
 same-length-3 : tie.Need-same-length-3
 same-length-3 c = search needs
@@ -60,7 +60,7 @@ draw-area-spec =
     tie.close
     (tie.spec
     returns
-    needs-floats-requires
+    needs-tables-requires
     multiply-area-requires
     same-length
     returns-2

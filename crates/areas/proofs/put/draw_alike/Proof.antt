@@ -9,7 +9,7 @@ use Rattle.areas.proofs.put.draw_alike.Tie as tie
 use Rattle.areas.proofs.put.draw_alike.Reads as reads
 use Rattle.areas.proofs.put.draw_alike.Lts as lts
 use Rattle.dots.proofs.get_dot.Reads as get-dot-reads
-use Rattle.dots.proofs.set_dot.Reads as set-dot-reads
+use Rattle.dots.proofs.store_dot.Reads as store-dot-reads
 use Rattle.dots.proofs.draw_dot.Reads as draw-dot-reads
 
 abbrev Inv-loop : tie.InvT-loop
@@ -36,11 +36,11 @@ get-dot-requires-2 c κs = omega arith
 draw-dot-requires : tie.Need-draw-dot-requires Inv-loop μ-loop
 draw-dot-requires c κs = search needs
 
-add-set-dot : tie.Need-add-set-dot Inv-loop μ-loop
-add-set-dot c = omega arith
+add-store-dot : tie.Need-add-store-dot Inv-loop μ-loop
+add-store-dot c = omega arith
 
-set-dot-requires : tie.Need-set-dot-requires Inv-loop μ-loop
-set-dot-requires c κs = omega arith
+store-dot-requires : tie.Need-store-dot-requires Inv-loop μ-loop
+store-dot-requires c κs = omega arith
 
 add-i : tie.Need-add-i Inv-loop μ-loop
 add-i c = omega arith
@@ -54,7 +54,7 @@ loop-again c =
     let g = d .before .before .before in
     let a = g .before .before .before .before .before .args in
     pixels-next _ _ _ _ _ _ (g .before .before .loop .inv) (g .before .loop-test .taken) (g .get-dot .ensures)
-    (dot-run _ (drawn (a .multiply) (g .get-dot .result)) (g .before .before .loop .buf) (omega arith) (d .before .get-dot2 .ensures) (d .draw-dot .ensures) (c .before .before .set-dot .ensures))
+    (dot-run _ (drawn (a .multiply) (g .get-dot .result)) (g .before .before .loop .buf) (omega arith) (d .before .get-dot2 .ensures) (d .draw-dot .ensures) (c .before .before .store-dot .ensures))
 
 same-length : tie.Need-same-length Inv-loop μ-loop
 same-length c = omega arith
@@ -74,8 +74,8 @@ draw-alike-spec =
     add-get-dot-2
     get-dot-requires-2
     draw-dot-requires
-    add-set-dot
-    set-dot-requires
+    add-store-dot
+    store-dot-requires
     add-i
     loop-less
     loop-again

@@ -1,7 +1,7 @@
 -- `dots::draw::draw_run` meets its contract. Assumes nothing.
 use native.Mathlib.Omega.{arith}
 use mathlib.Core.Path.{sym, _∙_}
-use Rattle.dots.proofs.Laws.{change-idle, change-by, drawn-none, floats-multiply, no-floats, covers-full}
+use Rattle.dots.proofs.Laws.{change-idle, change-by, drawn-none, tables-multiply, no-tables, covers-full}
 use borrow.Author.Needs.{needs}
 use Rattle.dots.proofs.draw.draw_run.Statement.{statement}
 use Rattle.dots.proofs.draw.draw_run.Tie as tie
@@ -11,11 +11,11 @@ returns c =
     let a = c .before .before .before .args in
     change-idle _ _ (a .buf .now) (λ i e. drawn-none (a .multiply) (a .c) _ (c .if1 .taken))
 
-needs-floats-requires : tie.Need-needs-floats-requires
-needs-floats-requires c κs = search needs
+needs-tables-requires : tie.Need-needs-tables-requires
+needs-tables-requires c κs = search needs
 
 multiply-some-requires : tie.Need-multiply-some-requires
-multiply-some-requires c κs = (omega arith, omega arith, floats-multiply _ _ (sym (c .before .before .needs-floats .ensures) ∙ c .before .if2 .taken))
+multiply-some-requires c κs = (omega arith, omega arith, tables-multiply _ _ (sym (c .before .before .needs-tables .ensures) ∙ c .before .if2 .taken))
 
 same-length : tie.Need-same-length
 same-length c = search needs
@@ -57,7 +57,7 @@ mix-run-requires : tie.Need-mix-run-requires
 mix-run-requires c κs =
     let t = c .before .before .before in
     let w = t .before .before .before .before .before in
-    ((omega arith, no-floats _ _ (omega arith) (sym (w .before .needs-floats .ensures) ∙ w .if2 .left)), (t .before .mix-factors .ensures, t .mix-terms .ensures))
+    ((omega arith, no-tables _ _ (omega arith) (sym (w .before .needs-tables .ensures) ∙ w .if2 .left)), (t .before .mix-factors .ensures, t .mix-terms .ensures))
 
 same-length-4 : tie.Need-same-length-4
 same-length-4 c = search needs
@@ -70,7 +70,7 @@ draw-run-spec =
     tie.close
     (tie.spec
     returns
-    needs-floats-requires
+    needs-tables-requires
     multiply-some-requires
     same-length
     returns-2
