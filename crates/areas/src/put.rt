@@ -48,8 +48,8 @@ fn smaller(a: usize, b: usize) -> usize
     b
 }
 
-// A row for which there may be fewer pixels than dots, or none. Multiplied pixels are all to be
-// mixed. Of blended ones the first tells which way is likely to be the sooner done, and either does
+// A row for which there may be fewer pixels than dots, or none. Multiplied pixels go alike, at every
+// alpha. Of blended ones the first tells which way is likely to be the sooner done, and either does
 // the same.
 fn put_row(
     buf: &mut [u8],

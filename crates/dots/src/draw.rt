@@ -42,13 +42,13 @@ fn draw_few(buf: &mut [u8], at: usize, count: usize, multiply: bool, c: RGBA)
 
 // From this many dots on, making the tables of a colour and going by them is sooner done than the
 // dots one by one.
-pub const TABLE_DOTS: usize = 280;
+pub const TABLE_DOTS: usize = 128;
 
 // The same for the arrays of 16-bit numbers.
 const LANE_DOTS: usize = 8;
 
-// Multiplying below full alpha goes by tables where there are many dots. All else goes by the arrays
-// of 16-bit numbers, which it would outgrow.
+// Multiplying below full alpha outgrows the arrays of 16-bit numbers, by which all else goes. It goes
+// by tables, where there are many dots.
 pub fn needs_tables(c: RGBA, multiply: bool) -> bool
     ensures { λ r. ⌜ r ≡ needsTables multiply c ⌝ }
 {
