@@ -14,11 +14,11 @@ use Rattle.bits.specs.Bits.{bitAlpha}
 use Rattle.graphics.specs.Formats.{alphaOf, bytesOf}
 use Rattle.graphics.specs.Decoding.{factor, pixelOf, isLarge}
 use Rattle.areas.specs.Areas.{inArea}
-use Rattle.job.specs.Records.{le16, le32, rgbaAt, recordAt, one, upTo, records}
+use Rattle.job.specs.Records.{le16, le32, rgbaAt, recordAt, one, upTo, records, Bytes}
 use Rattle.job.specs.Commands.{soundPaper, soundCommand, soundCommands, soundRecords, sound, commandAt, commandsIn, afterPaper, commands}
 use Rattle.job.specs.Dropping.{tallRefusal, putRefusal, imageRefusal, refusal, grown, next, heightFrom, keptFrom, droppedFrom, jobHeight, keptOf, jobDropped}
 use Rattle.plan.specs.Plan.{isFlip, hasFlip}
-use Rattle.job.proofs.Soundness.{and-both, Bytes}
+use Rattle.job.proofs.Soundness.{and-both}
 use Rattle.runs.specs.Pictures.{withImage, withMargin, after, afterAll}
 use Rattle.runs.specs.Run.{runPicture}
 use Rattle.agreement.specs.Agreement.{Plannable}

@@ -14,7 +14,7 @@ use Rattle.job.specs.Commands.{paperWidth, soundMode, commands}
 use Rattle.job.specs.Dropping.{grown, keptOf, jobHeight}
 use Rattle.job.proofs.Reasons.{rectangle-kept, stretched-kept}
 use Rattle.job.proofs.Folds.{Keeps, none, keep, drop, keeps, keeps-fits}
-use Rattle.job.proofs.Soundness.{and-both, Bytes, sane-rectangle, sane-image, AllSane, sane-more}
+use Rattle.job.proofs.Soundness.{and-both, sane-rectangle, sane-image, AllSane, sane-more}
 use Rattle.job.proofs.Walk.{Good, commands-sane}
 use Rattle.entries.specs.declared.Entry.{Entry}
 use Rattle.entries.specs.Entries.{rectangleEntry, imageEntry, goodStretch, goodImage, goodKind, goodEntry}
@@ -23,6 +23,7 @@ use Rattle.plan.specs.Plan.{lower, margins, entriesOf}
 use Rattle.plan.proofs.Listed.{entries-few}
 use Rattle.rows.specs.Rows.{goodEntries}
 use Rattle.rows.proofs.Rules as rules
+use Rattle.job.specs.Records.{Bytes}
 
 -- an entry m rows further down, in a plan that is at least m rows higher
 lower-good : (W H H' n m : ℕ) (e : Entry) → H + m ≤ H' → goodEntry W H n e ≡ true → goodEntry W H' n (lower m e) ≡ true

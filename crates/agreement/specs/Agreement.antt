@@ -9,7 +9,6 @@ use Rattle.numbers.specs.Numbers.{done}
 use Rattle.dots.specs.Dots.{dotAt}
 use Rattle.job.specs.Commands.{sound, commands}
 use Rattle.job.specs.Dropping.{mostCommands}
-use Rattle.job.proofs.Soundness.{Bytes}
 use Rattle.plan.specs.declared.Plan.{Plan}
 use Rattle.plan.specs.declared.Translated.{Translated}
 use Rattle.plan.specs.Plan.{hasFlip}
@@ -19,6 +18,7 @@ use Rattle.rows.specs.Rows.{ink}
 use Rattle.rows.proofs.row.Reads as row
 use Rattle.runs.specs.declared.Ran.{Ran}
 use Rattle.runs.proofs.run.Reads as run
+use Rattle.job.specs.Records.{Bytes}
 
 -- ---- calls of the shipped functions. All that is known of a call is that it keeps the contract, `F.Reads.Post`, which the checker reads off the source of F
 
@@ -31,7 +31,7 @@ pub record Call {K : Type 0} {A E : K → Type 0} {R : Type 0} (contract : (k : 
   pub given : such lifetimes arguments
   pub left : leaves lifetimes at-return
 
--- let r = run(s, buf); `before` and `after` are the bytes of buf before and after the call
+-- let r = run(s, buf); `before` and `after` are the bytes of buf before and after the call. Arguments and what is left of them are nested pairs: the first is `.0`, the second `.1 .0`, the third `.1 .1 .0`
 abbrev pub Run : List ℕ → List ℕ → Ran → List ℕ → Type 0
 Run s before r after = Call run.Post (λ k a. (now (a .0) ≡ s) × (now (a .1 .0) ≡ before)) (λ k e. now (e .1 .0) ≡ after) r
 

@@ -12,7 +12,7 @@ use Rattle.colour.specs.Choice.{if_then_else_}
 use Rattle.colour.specs.declared.RGBA.{RGBA}
 use Rattle.job.specs.declared.commands.Command.{Command}
 use Rattle.job.specs.declared.commands.Command.the-variants.{Rectangle, Image, Margin, Flip}
-use Rattle.job.specs.Records.{byteAt, le32, Records}
+use Rattle.job.specs.Records.{byteAt, Bytes, le32, Records}
 use Rattle.job.specs.Commands.{paperKind, rectangleKind, imageKind, marginKind, flipKind, paperSize, rectangleSize, imageSize, marginSize, flipSize, soundMode, soundPaper, soundCommand, soundCommands, rectangleAt, imageAt, flipAt, commandAt, commandsIn}
 use Rattle.job.proofs.Found.{Inside, in-ended, in-broken, in-rec}
 
@@ -123,10 +123,6 @@ module _ (s : List ℕ) (kind at n : ℕ) where
   is-margin a = rw (ne-eqb kind rectangleKind (λ z. omega arith), ne-eqb kind imageKind (λ z. omega arith), eq-eqb kind marginKind a)
 
 -- ---- a command of a sound record: its mode is one, its stretches are bytes and its bit rows lie in the job
-
--- the elements of a slice of bytes are below 256
-abbrev pub Bytes : List ℕ → Type 0
-Bytes s = (i : ℕ) → byteAt s i ≤ 255
 
 -- P says what a stretch is
 pub data SaneBy (P : ℕ → Type 0) (s : List ℕ) : Command → Type 0 where

@@ -1,5 +1,5 @@
 -- The records of a job: 01, "Jobs". s is the job's bytes throughout.
-use Prim.Native.Nat.{ℕ, zero, suc, _+_, _-_, _*_}
+use Prim.Native.Nat.{ℕ, zero, suc, _+_, _-_, _*_, _≤_}
 use mathlib.Core.List.{List}
 use mathlib.Core.Bool.{_||_}
 use lib.ListN.{length, getD}
@@ -13,6 +13,10 @@ use Rattle.job.specs.declared.records.Rec.the-variants.{Record, Bad, End
 -- little-endian: a byte, a u16, a u32 and a colour at a position. A byte past the end reads as 0
 abbrev pub byteAt : List ℕ → ℕ → ℕ
 byteAt s at = getD s at 0
+
+-- every element is a byte, as in a slice of bytes
+abbrev pub Bytes : List ℕ → Type 0
+Bytes s = (i : ℕ) → byteAt s i ≤ 255
 
 unfoldable pub le16 : List ℕ → ℕ → ℕ
 le16 s at = byteAt s at + byteAt s (at + 1) * 256
