@@ -20,6 +20,9 @@
  * bytes of the buffer `buf`. Each operation takes the record by value and gives the next one; only
  * the caller keeps it. Between calls the caller may change `auto_grow` and `paper_color`, and write
  * dots to the buffer. Where a buffer is too short, the same bytes may be lent again in a longer one.
+ *
+ * Jobs. A job draws a whole strip: `thermal_run` draws it on a canvas; `thermal_translate` and
+ * `thermal_row` give any row of it alone, without a canvas.
  */
 #ifndef THERMAL_H
 #define THERMAL_H
@@ -105,6 +108,72 @@ typedef struct thermal_decoded {
     uint32_t w;
     uint32_t h;
 } thermal_decoded;
+
+/* The most commands of a job, and entries of a plan. */
+#define THERMAL_MOST_COMMANDS 64
+
+/* A command that is dropped: its place, which is 0 for the first after the paper, and its number. */
+typedef struct thermal_dropped {
+    uint32_t place;
+    uint8_t reason;
+} thermal_dropped;
+
+/* What a run answers: the number, the canvas, and the dropped commands, which are the first
+ * `dropped_count`. All other places are zero. */
+typedef struct thermal_ran {
+    uint8_t number;
+    thermal_image image;
+    size_t dropped_count;
+    thermal_dropped dropped[THERMAL_MOST_COMMANDS];
+} thermal_ran;
+
+/* The kinds and the modes of an entry. */
+#define THERMAL_RECTANGLE 2
+#define THERMAL_IMAGE 3
+#define THERMAL_BLEND 0
+#define THERMAL_MULTIPLY 1
+
+/* An entry of a plan: a rectangle or an image in its place, cropped. A rectangle has zero in the
+ * factors, the original sizes and `start`; an image's bit rows stand in the job's bytes from `start`
+ * on. */
+typedef struct thermal_entry {
+    uint8_t kind;
+    uint8_t mode;
+    uint8_t stretch_x;
+    uint8_t stretch_y;
+    thermal_rgba color;
+    uint32_t x;
+    uint32_t y;
+    uint32_t w;
+    uint32_t h;
+    uint32_t original_width;
+    uint32_t original_height;
+    size_t start;
+} thermal_entry;
+
+/* A row plan. Its entries are the first `count`, and its dropped commands the first `dropped_count`;
+ * all other places are zero. */
+typedef struct thermal_plan {
+    uint32_t width;
+    uint32_t height;
+    thermal_rgba paper_color;
+    size_t count;
+    thermal_entry entries[THERMAL_MOST_COMMANDS];
+    size_t dropped_count;
+    thermal_dropped dropped[THERMAL_MOST_COMMANDS];
+} thermal_plan;
+
+/* The number, and the plan of a job. */
+typedef struct thermal_translated {
+    uint8_t number;
+    thermal_plan plan;
+} thermal_translated;
+
+/* The number, and how many of a row's dots have ink, which is red below 128. */
+typedef struct thermal_row_answer {
+    uint8_t number;
+    uint32_t ink;
+} thermal_row_answer;
 
 /*
  * Colours. These refuse nothing, and all but the last write nothing.
@@ -272,6 +341,38 @@ thermal_answer thermal_flip_pixels(thermal_image image, uint32_t x, uint32_t y, 
  * other, so that a corner is blended twice. Numbers: 2, 10, 1. */
 uint8_t thermal_draw_border(uint32_t w, uint32_t h, thermal_rgba color, uint8_t *buf,
                             size_t length);
+
+/*
+ * Jobs. A job is the bytes of a strip: records, little-endian, each a length u32 of what follows it, a
+ * kind u16 and a body. The first is the paper, and only the first; the others are the commands. A
+ * colour is four bytes r, g, b, a, and a mode is one byte, 0 to blend and 1 to multiply.
+ *
+ *     1 paper      width u32 (1 to THERMAL_LIMIT), colour
+ *     2 rectangle  x, y, w, h u32, colour, mode
+ *     3 image      x, y, w, h u32, stretch_x, stretch_y u8, colour, mode, rows of bits
+ *     4 margin     rows u32, which are added at the top
+ *     5 flip       x, y, w, h u32
+ *
+ * A command that would be refused with 2, 3, 5, 8 or 10 is dropped, and the others are drawn.
+ */
+
+/* Answers the canvas that a job draws, from one without rows, with growth on, and the dropped
+ * commands.
+ * Writes the canvas's dots, 4*width*height bytes, from the start of `buf` when done; the height is
+ * known before a byte is written. `job` is only read. Numbers: 11, 12, 1. */
+thermal_ran thermal_run(const uint8_t *job, size_t job_length, uint8_t *buf, size_t length);
+
+/* Answers the row plan of a job without flips: one entry for each rectangle and image that is not
+ * dropped, in order, also where it has no area.
+ * Writes nothing. Numbers: 11, 12, 13. */
+thermal_translated thermal_translate(const uint8_t *job, size_t job_length);
+
+/* Answers how many dots of a plan's row have ink. `data` is the job that the plan is of, or any bytes
+ * in which the plan's images have their rows.
+ * Writes the row, 4*width bytes, from the start of `line` when done: paper, with the entries drawn in
+ * order, as on the canvas of thermal_run. `data` is only read. Numbers: 14, 15, 1. */
+thermal_row_answer thermal_row(thermal_plan plan, uint32_t row, const uint8_t *data,
+                               size_t data_length, uint8_t *line, size_t length);
 
 #ifdef __cplusplus
 }

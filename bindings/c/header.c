@@ -42,6 +42,21 @@ static void sizes(void) {
     expect(sizeof(thermal_copied) == 12, "thermal_copied");
     expect(sizeof(thermal_rgb) == 28, "thermal_rgb");
     expect(sizeof(thermal_decoded) == 12, "thermal_decoded");
+    expect(sizeof(thermal_dropped) == 8, "thermal_dropped");
+    expect(sizeof(thermal_ran) == 544 && offsetof(thermal_ran, image) == 4 &&
+               offsetof(thermal_ran, dropped_count) == 24 && offsetof(thermal_ran, dropped) == 32,
+           "thermal_ran");
+    expect(sizeof(thermal_entry) == 40 && offsetof(thermal_entry, color) == 4 &&
+               offsetof(thermal_entry, x) == 8 && offsetof(thermal_entry, start) == 32,
+           "thermal_entry");
+    expect(sizeof(thermal_plan) == 3104 && offsetof(thermal_plan, count) == 16 &&
+               offsetof(thermal_plan, entries) == 24 &&
+               offsetof(thermal_plan, dropped_count) == 2584 &&
+               offsetof(thermal_plan, dropped) == 2592,
+           "thermal_plan");
+    expect(sizeof(thermal_translated) == 3112 && offsetof(thermal_translated, plan) == 8,
+           "thermal_translated");
+    expect(sizeof(thermal_row_answer) == 8, "thermal_row_answer");
 }
 
 static void colours(void) {
@@ -145,11 +160,71 @@ static void drawing(void) {
     expect(thermal_draw_border(2, 2, black, buf, 15) == THERMAL_NO_ROOM, "thermal_draw_border");
 }
 
+/* Document 01's job: paper 10 wide, an image, a rectangle that is cropped, a margin, and a rectangle
+ * that is dropped. */
+static const uint8_t job[] = {
+    10, 0, 0, 0, 1, 0, 10, 0, 0, 0, 255, 255, 255, 255,
+    27, 0, 0, 0, 3, 0, 0, 0, 0, 0, 0, 0, 0, 0, 3, 0, 0, 0, 2, 0, 0, 0,
+    2, 1, 0, 0, 0, 255, 1, 0xa0, 0x40,
+    23, 0, 0, 0, 2, 0, 8, 0, 0, 0, 1, 0, 0, 0, 5, 0, 0, 0, 1, 0, 0, 0, 0, 0, 0, 255, 1,
+    6, 0, 0, 0, 4, 0, 1, 0, 0, 0,
+    23, 0, 0, 0, 2, 0, 10, 0, 0, 0, 0, 0, 0, 0, 1, 0, 0, 0, 1, 0, 0, 0, 0, 0, 0, 255, 1};
+
+static bool dropped(size_t count, const thermal_dropped *list) {
+    return count == 1 && list[0].place == 3 && list[0].reason == THERMAL_OFF_PAPER &&
+           list[1].place == 0 && list[1].reason == 0 && list[63].reason == 0;
+}
+
+static bool entry(thermal_entry e, uint8_t kind, uint32_t x, uint32_t y, uint32_t w, uint32_t h) {
+    return e.kind == kind && e.mode == THERMAL_MULTIPLY && same(e.color, 0, 0, 0, 255) &&
+           e.x == x && e.y == y && e.w == w && e.h == h;
+}
+
+static void jobs(void) {
+    uint8_t buf[121];
+    uint8_t line[41];
+    memset(buf, 9, sizeof buf);
+    memset(line, 9, sizeof line);
+    thermal_ran ran = thermal_run(job, sizeof job, buf, 119);
+    expect(ran.number == THERMAL_NO_ROOM && ran.image.width == 0 && ran.dropped_count == 0 &&
+               buf[0] == 9,
+           "thermal_run");
+    ran = thermal_run(job, sizeof job, buf, 120);
+    expect(ran.number == THERMAL_DONE && ran.image.width == 10 && ran.image.height == 3 &&
+               ran.image.auto_grow && same(ran.image.paper_color, 255, 255, 255, 255) &&
+               dropped(ran.dropped_count, ran.dropped) && buf[0] == 255 && buf[40] == 0 &&
+               buf[48] == 255 && buf[116] == 0 && buf[120] == 9,
+           "thermal_run");
+    thermal_translated translated = thermal_translate(job, sizeof job);
+    thermal_plan plan = translated.plan;
+    expect(translated.number == THERMAL_DONE && plan.width == 10 && plan.height == 3 &&
+               same(plan.paper_color, 255, 255, 255, 255) && plan.count == 2 &&
+               entry(plan.entries[0], THERMAL_IMAGE, 0, 1, 6, 2) &&
+               plan.entries[0].stretch_x == 2 && plan.entries[0].stretch_y == 1 &&
+               plan.entries[0].original_width == 3 && plan.entries[0].original_height == 2 &&
+               plan.entries[0].start == 43 &&
+               entry(plan.entries[1], THERMAL_RECTANGLE, 8, 2, 2, 1) &&
+               plan.entries[1].start == 0 && plan.entries[2].kind == 0 &&
+               dropped(plan.dropped_count, plan.dropped),
+           "thermal_translate");
+    expect(thermal_translate(job, sizeof job - 1).number == THERMAL_BAD_JOB, "thermal_translate");
+    thermal_row_answer answer = thermal_row(plan, 2, job, sizeof job, line, 40);
+    expect(answer.number == THERMAL_DONE && answer.ink == 4 && memcmp(line, buf + 80, 40) == 0 &&
+               line[40] == 9,
+           "thermal_row");
+    answer = thermal_row(plan, 3, job, sizeof job, line, 40);
+    expect(answer.number == THERMAL_NO_ROW && answer.ink == 0, "thermal_row");
+    plan.entries[0].start = sizeof job - 1;
+    expect(thermal_row(plan, 2, job, sizeof job, line, 40).number == THERMAL_BAD_PLAN,
+           "thermal_row");
+}
+
 int main(void) {
     sizes();
     colours();
     decoders();
     canvases();
     drawing();
+    jobs();
     return failed != 0;
 }

@@ -1,9 +1,12 @@
-//! Draws a strip and writes it as a picture, in the format PPM, that an image viewer opens:
+//! Draws a strip and writes it as a picture, in the format PPM, that an image viewer opens: the strip
+//! of a job's file, or one that is drawn here call by call.
 //!
+//!     cargo run --example picture strip.ppm ../../examples/mark.job
 //!     cargo run --example picture strip.ppm
 
 use std::error::Error;
 use std::{env, fs};
+use thermal::job;
 use thermal::{image_from_raster_bytes_single_color, Canvas, Image, Rectangle, Rgba, Sizes};
 
 /// Dots across the paper.
@@ -30,11 +33,24 @@ const MARK: [u16; 16] = [
 ];
 
 fn main() -> Result<(), Box<dyn Error>> {
-    let path = env::args().nth(1).ok_or("usage: picture FILE.ppm")?;
-    let canvas = strip()?;
+    let mut words = env::args().skip(1);
+    let path = words.next().ok_or("usage: picture FILE.ppm [JOB]")?;
+    let canvas = match words.next() {
+        Some(file) => of_job(&fs::read(file)?)?,
+        None => strip()?,
+    };
     println!("{} by {} dots", canvas.width(), canvas.get_height());
     fs::write(path, ppm(canvas))?;
     Ok(())
+}
+
+/// What a job draws. Its dropped commands are told.
+fn of_job(bytes: &[u8]) -> Result<Canvas, thermal::Error> {
+    let strip = job::run(bytes)?;
+    for dropped in &strip.dropped {
+        println!("command {} is dropped: {}", dropped.place, dropped.error());
+    }
+    Ok(strip.canvas)
 }
 
 /// The mark in its frame, a translucent band that the paper's edge cuts, and a margin.

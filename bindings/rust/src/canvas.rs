@@ -50,13 +50,18 @@ impl Canvas {
     /// ```
     pub fn new(width: u32) -> Result<Self, Error> {
         let image = ThermalImage::new(width).done()?;
-        Ok(Canvas {
+        Ok(Canvas::of(image, Vec::new()))
+    }
+
+    /// A canvas that the library answers, whose dots are in the buffer.
+    pub(crate) fn of(image: ThermalImage, buf: Vec<u8>) -> Self {
+        Canvas {
             width: image.width,
             height: image.height,
             auto_grow: image.auto_grow,
             paper_color: image.paper_color,
-            buf: Vec::new(),
-        })
+            buf,
+        }
     }
 
     pub fn width(&self) -> u32 {

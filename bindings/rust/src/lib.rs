@@ -4,7 +4,7 @@
 //! No input stops the library or goes wrong inside it. Each has one answer, which is a picture by
 //! the rules or one of the refusals of document 01, an [`Error`].
 //!
-//! [`Canvas`] owns its dots. [`lent`] is the same boundary with every buffer lent by the caller, and
+//! [`Canvas`] owns its dots. [`job`] draws whole strips, or single rows of them. [`lent`] is the same boundary with every buffer lent by the caller, and
 //! [`raw`] is the library's functions as they are.
 //!
 //! ```

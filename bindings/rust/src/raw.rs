@@ -5,8 +5,10 @@ mod canvas;
 mod colours;
 mod draw;
 mod images;
+mod jobs;
 
 pub use canvas::*;
 pub use colours::*;
 pub use draw::*;
 pub use images::*;
+pub use jobs::*;
