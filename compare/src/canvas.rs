@@ -4,16 +4,15 @@
 mod border;
 mod history;
 mod pair;
-mod space;
 mod text;
 
 use crate::report::{Place, Report};
+use crate::space::{Space, SHIFTS};
 use history::History;
 use oracle::canvas::cases::{Class, Step};
 use oracle::canvas::Operation;
 use oracle::random::Random;
 use pair::Pair;
-use space::{Space, SHIFTS};
 
 pub use border::{read as read_border, Borders};
 pub use text::read as read_history;

@@ -2,6 +2,7 @@
 //! u32 whose little-endian bytes are r, g, b, a, as in the rest of this program.
 
 pub mod canvas;
+pub mod jobs;
 
 use oracle::decoders::{Input, Kind};
 use thermal::lent::{

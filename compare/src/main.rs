@@ -6,11 +6,13 @@ mod colour;
 mod decoders;
 mod failures;
 mod incident;
+mod jobs;
 mod library;
 mod progress;
 mod question;
 mod replay;
 mod report;
+mod space;
 mod words;
 
 use oracle::random::Random;
@@ -27,6 +29,7 @@ fn main() -> ExitCode {
             (Ok(cases), Ok(seed)) => long(build, cases, seed),
             _ => usage(),
         },
+        ["jobs", build, folder] => archive(build, folder),
         ["replay", file] => replay(file),
         ["incident"] => {
             incident::show();
@@ -41,7 +44,7 @@ fn main() -> ExitCode {
 }
 
 fn usage() -> ExitCode {
-    eprintln!("usage: compare run BUILD [CASES SEED] | replay FILE | incident | bench");
+    eprintln!("usage: compare run BUILD [CASES SEED] | jobs BUILD FOLDER | replay FILE | incident | bench");
     ExitCode::from(2)
 }
 
@@ -51,17 +54,22 @@ fn quick(build: &str) -> ExitCode {
     colour::compare(&mut report);
     decoders::compare(&mut report);
     canvas::compare(&mut report);
+    jobs::compare(&mut report);
     report.finish()
 }
 
+/// A job has a case for each of its rows; of a tall one only so many are compared.
+const MOST_OF_A_JOB: u64 = 200;
+
 /// Random cases of all operations but those on single colours, of which the quick setting has
-/// nearly all inputs: histories of a canvas, and between them images and borders.
+/// nearly all inputs: histories of a canvas, and between them images, borders and jobs.
 fn long(build: &str, cases: u64, seed: u64) -> ExitCode {
     let mut report = Report::new(build, Progress::new(build, Some(cases)));
     let mut random = Random::new(seed);
     let images = decoders::Decoders::new(&mut report, &mut random);
     let mut canvases = canvas::Canvases::new(&mut report);
     let mut borders = canvas::Borders::new(&mut report, &mut random);
+    let mut strips = jobs::Jobs::new(&mut report);
     while report.cases() < cases {
         let before = report.cases();
         canvases.any(cases - before, &mut report, &mut random);
@@ -73,8 +81,24 @@ fn long(build: &str, cases: u64, seed: u64) -> ExitCode {
         for _ in 0..calls.div_ceil(20).min(cases - report.cases()) {
             borders.any(&mut report, &mut random);
         }
+        let left = cases - report.cases();
+        if left > 0 {
+            strips.any(left.min(MOST_OF_A_JOB), &mut report, &mut random);
+        }
     }
     report.finish()
+}
+
+/// The files of a folder, each a job.
+fn archive(build: &str, folder: &str) -> ExitCode {
+    let mut report = Report::new(build, Progress::new(build, None));
+    match jobs::archive(folder, &mut report) {
+        Ok(()) => report.finish(),
+        Err(why) => {
+            println!("{why}");
+            ExitCode::from(2)
+        }
+    }
 }
 
 fn replay(file: &str) -> ExitCode {

@@ -2,7 +2,7 @@
 
 use crate::question::Question;
 use crate::words::Words;
-use crate::{canvas, colour, decoders};
+use crate::{canvas, colour, decoders, jobs};
 use std::fs;
 
 /// How the answers differ, if they do.
@@ -16,6 +16,8 @@ pub fn replay(path: &str) -> Result<Option<String>, String> {
         "decoder" => decoders::read(words)?.difference(),
         "canvas" => canvas::read_history(words)?.difference(),
         "border" => canvas::read_border(words)?.difference(),
+        "job" => jobs::read_job(words)?.difference(),
+        "plan" => jobs::read_plan(words)?.difference(),
         word => return Err(format!("'{word}' is no question")),
     })
 }

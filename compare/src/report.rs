@@ -40,6 +40,8 @@ struct Row {
     numbers: [u64; NUMBERS],
     outside: u64,
     differences: u64,
+    /// Whether it may be without a case.
+    optional: bool,
 }
 
 /// A row's place.
@@ -61,6 +63,13 @@ impl Report {
         }
     }
 
+    /// Lets rows be without a case.
+    pub fn optional(&mut self, places: impl IntoIterator<Item = Place>) {
+        for place in places {
+            self.rows[place.0].optional = true;
+        }
+    }
+
     /// Adds a row, which has to have cases in the end.
     pub fn row(&mut self, name: impl Into<String>) -> Place {
         self.rows.push(Row {
@@ -69,6 +78,7 @@ impl Report {
             numbers: [0; NUMBERS],
             outside: 0,
             differences: 0,
+            optional: false,
         });
         Place(self.rows.len() - 1)
     }
@@ -117,7 +127,7 @@ impl Report {
     fn passed_and_failed(&self) -> (u64, u64) {
         let (mut passed, mut failed) = (0, 0);
         for row in &self.rows {
-            if row.cases == 0 {
+            if row.cases == 0 && !row.optional {
                 println!("{} has no case", row.name);
                 failed += 1;
             }

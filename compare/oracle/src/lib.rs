@@ -4,6 +4,7 @@
 pub mod canvas;
 pub mod colour;
 pub mod decoders;
+pub mod job;
 pub mod random;
 pub mod rules;
 pub mod samples;

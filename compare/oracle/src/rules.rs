@@ -2,6 +2,7 @@
 //! nothing of lent buffers, and it stops or wraps at sizes that the scope refuses.
 
 pub mod canvas;
+pub mod job;
 
 use crate::decoders::{Input, Kind};
 

@@ -1,9 +1,9 @@
 //! Borders of pictures, which are no part of a canvas.
 
-use super::space::{Space, SHIFTS};
 use crate::library::canvas::draw_border;
 use crate::question::{below, blanker, plainer, vary, Question};
 use crate::report::{Place, Report, Verdict};
+use crate::space::{Space, SHIFTS};
 use crate::words::{bytes, Words};
 use oracle::canvas;
 use oracle::canvas::cases::{color, HUGE};

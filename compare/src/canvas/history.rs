@@ -1,9 +1,9 @@
 //! A history asked alone, and how it is made smaller.
 
 use super::pair::Pair;
-use super::space::Space;
 use super::text;
 use crate::question::{below, blanker, parts, plainer, vary, Question};
+use crate::space::Space;
 use oracle::canvas::cases::{Case, Step};
 use oracle::canvas::{Area, Operation};
 use oracle::random::Random;

@@ -1,8 +1,8 @@
 //! The original's canvas and this library's, which go through a history side by side.
 
-use super::space::Space;
 use crate::library::canvas::{call, Answer};
 use crate::report::Verdict;
+use crate::space::Space;
 use oracle::canvas::cases::{Case, Step};
 use oracle::canvas::{self, Canvas, Operation, Record};
 use oracle::rules::canvas::{after, due, height, Lent};

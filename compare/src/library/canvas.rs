@@ -91,7 +91,7 @@ fn image(record: &Record) -> ThermalImage {
     }
 }
 
-fn record(image: ThermalImage) -> Record {
+pub(super) fn record(image: ThermalImage) -> Record {
     Record {
         width: image.width,
         height: image.height,

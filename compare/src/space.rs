@@ -28,6 +28,11 @@ impl Space {
         }
     }
 
+    /// The bytes that can be lent.
+    pub fn capacity(&self) -> usize {
+        self.memory.len() - 2 * BESIDE - SHIFTS
+    }
+
     /// Moves the start, so that it lies at every alignment.
     pub fn shift(&mut self, by: usize) {
         self.start = BESIDE + by;
