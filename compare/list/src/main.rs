@@ -3,6 +3,7 @@
 mod canvas;
 mod colour;
 mod decoders;
+mod jobs;
 
 use canvas::List;
 use std::process::ExitCode;
@@ -16,10 +17,12 @@ fn main() -> ExitCode {
         Some("canvas_refusals") => canvas::write(List::Refusals),
         Some("drawing") => canvas::write_drawing(List::Answers),
         Some("drawing_refusals") => canvas::write_drawing(List::Refusals),
+        Some("jobs") => jobs::write(),
+        Some("jobs_refusals") => jobs::write_refusals(),
         _ => {
             eprintln!(
                 "usage: list colour | decoders | decoders_refusals | canvas | canvas_refusals | \
-                 drawing | drawing_refusals"
+                 drawing | drawing_refusals | jobs | jobs_refusals"
             );
             return ExitCode::from(2);
         }
