@@ -137,7 +137,7 @@ impl Command {
 }
 
 /// Areas of more dots that are off the paper are not asked of the original.
-const MOST_DOTS: u64 = 1 << 17;
+const MOST_DOTS: u128 = 1 << 17;
 
 /// The canvas that the original draws of a job, command by command. What is dropped with 3 or 5 it
 /// has to refuse itself.
@@ -165,8 +165,8 @@ fn refused(canvas: &mut Canvas, command: &Command, reason: u8) -> Result<(), Str
         _ => return Ok(()),
     };
     let (x, y) = command.input().map_or((1, 1), |input| input.stretch);
-    let dots = u64::from(area.w) * u64::from(area.h) * u64::from(x.max(1)) * u64::from(y.max(1));
-    if dots > MOST_DOTS {
+    let stretch = u128::from(x.max(1)) * u128::from(y.max(1));
+    if u128::from(area.w) * u128::from(area.h) * stretch > MOST_DOTS {
         return Ok(());
     }
     let kept = match reason {

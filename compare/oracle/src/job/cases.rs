@@ -256,7 +256,10 @@ pub fn damage_plan(plan: &mut Plan, data: usize, random: &mut Random) {
         match random.below(20) {
             0 => plan.width = near(width, random),
             1 => plan.height = near(height, random),
-            2 => plan.count = random.one_of(&[0, 63, 64, 65, count + 1, 1 << 32, u64::MAX]),
+            2 => {
+                plan.count =
+                    random.one_of(&[0, 63, 64, 65, count.saturating_add(1), 1 << 32, u64::MAX])
+            }
             3 => plan.paper_color = color(random),
             4 => entry.kind = random.one_of(&[0, 1, 2, 3, 2, 3, 4, 5, 255]),
             5 => entry.mode = random.one_of(&[0, 1, 0, 1, 2, 255]),
