@@ -3,6 +3,7 @@
 mod canvas;
 mod colour;
 mod decoders;
+mod jobs;
 
 use std::time::Instant;
 
@@ -14,6 +15,8 @@ pub fn measure() {
     decoders::measure();
     println!();
     canvas::measure();
+    println!();
+    jobs::measure();
 }
 
 /// The times of one work, a round each.
