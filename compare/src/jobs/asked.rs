@@ -239,3 +239,43 @@ pub fn read(words: &mut Words) -> Result<Asked, String> {
         job: words.bytes()?,
     })
 }
+
+#[cfg(test)]
+mod tests {
+    use super::{read, smaller_jobs, Asked, Call, Question, Random, Words};
+    use oracle::job::cases::Class;
+    use oracle::rules::job::read as read_bytes;
+
+    const CLASS: Class = Class {
+        widths: &[1, 9, 20],
+        rows: 20,
+        side: 9,
+        commands: 6,
+        dots: 1 << 14,
+    };
+
+    #[test]
+    fn what_is_written_is_read() {
+        let mut random = Random::new(1);
+        for call in [Call::Run, Call::Translate, Call::Row(7)] {
+            for _ in 0..50 {
+                let text = Asked::new(&CLASS.bytes(&mut random), call, 300, 5).text();
+                let mut words = Words::new(text.strip_prefix("job").unwrap());
+                assert_eq!(read(&mut words).unwrap().text(), text);
+            }
+        }
+    }
+
+    #[test]
+    fn smaller_jobs_are_jobs() {
+        let mut random = Random::new(2);
+        for _ in 0..50 {
+            let job = CLASS.job(&mut random);
+            if read_bytes(&job.bytes()).is_ok() {
+                for smaller in smaller_jobs(&job) {
+                    assert_eq!(read_bytes(&smaller.bytes()), Ok(smaller));
+                }
+            }
+        }
+    }
+}
