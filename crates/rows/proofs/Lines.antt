@@ -36,6 +36,10 @@ one-row s e W row l w =
     change-where _ (within 0 W) _ l (λ k. sym (run-row W 0 W 0 k w (omega arith)) ∙ ap (λ (n : ℕ). within n (n + W) k) (omega arith) ∙ ap (λ (n : ℕ). within 0 n k) (omega arith))
     ∙ change-by (within 0 W) _ _ l (λ k t. let b = within-true 0 W k t .1 in rw (mod-eq-of-lt b, div-eq-of-lt b, sub-zero, sub-zero, add-zero row))
 
+-- and over what it held
+over-row : (s : List ℕ) (e : Entry) (W row : ℕ) (g : ℕ → RGBA → RGBA) (l : List ℕ) → 0 < W → entryRows s e W 0 row 1 (change (within 0 W) g l) ≡ change (within 0 W) (λ i d. entryOn s e i row (g i d)) l
+over-row s e W row g l w = one-row s e W row (change (within 0 W) g l) w ∙ change-over (within 0 W) g (λ i d. entryOn s e i row d) l
+
 -- the loop: i of `count` entries are applied in b to the dots of l
 pub record Applied (s : List ℕ) (W count : ℕ) (es : List Entry) (row : ℕ) (l : List ℕ) (i : ℕ) (b : List ℕ) : Type 0 where
   pub upto : i ≤ count
@@ -53,11 +57,7 @@ module _ (s : List ℕ) (W count : ℕ) (es : List Entry) (row : ℕ) (l : List 
       record {
         upto = omega arith;
         same = ap length (em ∙ one-row s e W row b w) ∙ length-change _ _ b ∙ a .same;
-        sofar =
-            em ∙ one-row s e W row b w
-            ∙ rw (a .sofar)
-            (change-over (within 0 W) _ _ l
-            ∙ change-by (within 0 W) _ _ l (λ k t. sym (entries-next s es i k row (dotAt l k))));
+        sofar = em ∙ rw (a .sofar) (over-row s e W row _ l w ∙ change-by (within 0 W) _ _ l (λ k t. sym (entries-next s es i k row (dotAt l k))));
       }
 
   -- on paper
@@ -68,6 +68,15 @@ module _ (s : List ℕ) (W count : ℕ) (es : List Entry) (row : ℕ) (l : List 
       let f : l ≡ change (within 0 W) (λ _ _. paper) line = el ∙ ap (λ (n : ℕ). change (within 0 n) (λ _ _. paper) line) (omega arith) in
       let c : b ≡ change (within 0 W) (λ k d. entriesOn s (firsts count es) k row d) l = rw e at (a .sofar) in
       c ∙ rw f (change-over (within 0 W) _ _ line)
+
+-- a row of no entries is paper, and one entry more
+pub row-none : (s : List ℕ) (W : ℕ) (paper : RGBA) (es : List Entry) (row : ℕ) (l : List ℕ) → change (within 0 W) (λ _ _. paper) l ≡ rowOn s W paper (firsts 0 es) row l
+unfolding rowOn entriesOn firsts
+row-none s W paper es row l = refl
+
+pub row-more : (s : List ℕ) (W : ℕ) (paper : RGBA) (es : List Entry) (row : ℕ) (l : List ℕ) (i : ℕ) → 0 < W → entryRows s (getD es i noEntry) W 0 row 1 (rowOn s W paper (firsts i es) row l) ≡ rowOn s W paper (firsts (i + 1) es) row l
+unfolding rowOn
+row-more s W paper es row l i w = over-row s (getD es i noEntry) W row _ l w ∙ change-by (within 0 W) _ _ l (λ k t. sym (entries-next s es i k row paper))
 
 -- ---- ink
 

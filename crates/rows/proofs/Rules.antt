@@ -38,8 +38,18 @@ sizes-good W H count e =
     let d = both (leb 1 W) (leb W limit) (c .0) in
     record { some = leb-true _ _ (d .0); wide = leb-true _ _ (d .1); tall = leb-true _ _ (c .1); few = leb-true _ _ (b .1) }
 
+pub refusal-done : (good : Bool) (W H row room : ℕ) → refusalOf good W H row room ≡ done → (good ≡ true) × (row < H) × (W * 4 ≤ room)
+unfolding refusalOf
+refusal-done good W H row room = by good (leb H row) refl (ltb room (4 * W)) refl
+  where
+    by : (a b : Bool) → leb H row ≡ b → (c : Bool) → ltb room (4 * W) ≡ c → (if not a then badPlan else if b then noRow else if c then noRoom else done) ≡ done → (a ≡ true) × (row < H) × (W * 4 ≤ room)
+    by true false q false r e = (refl, leb-false H row q, omega (arith, ltb-false room (4 * W) r))
+    by true false q true r e = absurd (omega arith)
+    by true true q c r e = absurd (omega arith)
+    by false b q c r e = absurd (omega arith)
+
 module _ (W H n : ℕ) where
-  good-more : (es : List Entry) (e : Entry) → goodEntries W H n (es ++ (e ∷ [])) ≡ (goodEntries W H n es && goodEntry W H n e)
+  pub good-more : (es : List Entry) (e : Entry) → goodEntries W H n (es ++ (e ∷ [])) ≡ (goodEntries W H n es && goodEntry W H n e)
   unfolding goodEntries
   good-more [] e = and-true _
   good-more (f ∷ es) e = rw (good-more es e) (split (goodEntry W H n f))
@@ -94,15 +104,7 @@ module _ (W H n : ℕ) where
       pub room : W * 4 ≤ size
 
     pub row-given : (row room : ℕ) → rowRefusal W H n count es row room ≡ done → Given row room
-    unfolding refusalOf
-    row-given row room = by (goodPlan W H n count es) refl (leb H row) refl (ltb room (4 * W)) refl
-      where
-        by : (a : Bool) → goodPlan W H n count es ≡ a → (b : Bool) → leb H row ≡ b → (c : Bool) → ltb room (4 * W) ≡ c
-            → (if not a then badPlan else if b then noRow else if c then noRoom else done) ≡ done → Given row room
-        by true p false q false r e = record { good = plan-good p; below = leb-false H row q; room = omega (arith, ltb-false room (4 * W) r) }
-        by true p false q true r e = absurd (omega arith)
-        by true p true q c r e = absurd (omega arith)
-        by false p b q c r e = absurd (omega arith)
+    row-given row room e = let p = refusal-done (goodPlan W H n count es) W H row room e in record { good = plan-good (p .0); below = p .1; room = p .2 }
 
     pub given-row : (row room : ℕ) → Given row room → rowRefusal W H n count es row room ≡ done
     unfolding refusalOf
