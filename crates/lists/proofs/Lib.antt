@@ -1,0 +1,4 @@
+mod Laws
+mod Again
+mod Locals
+mod Unique
