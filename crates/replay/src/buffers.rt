@@ -39,10 +39,15 @@ pub fn checksum(bytes: &[u8]) -> u32 {
     let mut sum: u64 = 0x811c9dc5;
     let mut i = 0;
     while i < bytes.len() {
-        sum = (sum ^ wide(bytes[i])) % 0x1_0000_0000 * 0x0100_0193 % 0x1_0000_0000;
+        sum = summed(sum, bytes[i]);
         i += 1;
     }
-    sum as u32
+    (sum % 0x1_0000_0000) as u32
+}
+
+// The checksum so far, with one byte more.
+pub fn summed(sum: u64, byte: u8) -> u64 {
+    (sum ^ wide(byte)) % 0x1_0000_0000 * 0x0100_0193 % 0x1_0000_0000
 }
 
 fn wide(x: u8) -> u64 {

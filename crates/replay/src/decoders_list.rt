@@ -1,5 +1,4 @@
-// The lists of the decoders' answers: a line is 79 bytes at fixed places and then the data, as
-// many bytes in hex as the number before them says, and a newline.
+// The lists of the decoders' answers.
 ghost use Prim.Native.Nat.{_+_, _*_, _≤_};
 ghost use lib.ListN.{length};
 use super::Tally;
@@ -9,9 +8,11 @@ use super::colour_list::the_colors;
 use super::hex::byte_at;
 use super::hex::color_at;
 use super::hex::number_at;
+use super::lines::tally;
+use super::lines::unpack;
 use graphics::Decoded;
 
-const HEAD: usize = 79;
+pub const HEAD: usize = 79;
 
 pub fn replay(path: &[u8]) -> Tally {
     let list = os::open_read(path);
@@ -19,31 +20,11 @@ pub fn replay(path: &[u8]) -> Tally {
     let n = io::read_full(list, &mut space);
     let mut data = [0u8; 512];
     let mut out = [0u8; 4096];
-    tally(&space[..n], &mut data, &mut out)
-}
-
-fn tally(lines: &[u8], data: &mut [u8], out: &mut [u8]) -> Tally {
-    let mut agree = 0;
-    let mut differ = 0;
-    let mut at = 0;
-    while lines.len() - at > HEAD {
-        let size = number_at(lines, at + 75, 4) as usize;
-        let line = HEAD + size * 2 + 1;
-        if lines.len() - at < line {
-            return Tally { agree, differ };
-        }
-        if agrees(lines, at, size, data, out) {
-            agree += 1;
-        } else {
-            differ += 1;
-        }
-        at += line;
-    }
-    Tally { agree, differ }
+    tally(&space[..n], false, &mut data, &mut out)
 }
 
 // Every byte of the output is 5a before the call.
-fn agrees(s: &[u8], at: usize, size: usize, data: &mut [u8], out: &mut [u8]) -> bool
+pub fn agrees(s: &[u8], at: usize, size: usize, data: &mut [u8], out: &mut [u8]) -> bool
     requires { ⌜ at + 79 + size * 2 ≤ length (now s) ⌝ }
 {
     let room = number_at(s, at + 38, 6) as usize;
@@ -60,17 +41,6 @@ fn agrees(s: &[u8], at: usize, size: usize, data: &mut [u8], out: &mut [u8]) -> 
         return false;
     }
     checksum(&out[..room]) == number_at(s, at + 66, 8)
-}
-
-// The bytes that `size` pairs of digits spell.
-fn unpack(s: &[u8], at: usize, size: usize, data: &mut [u8])
-    requires { ⌜ (size ≤ length (now «data»)) × (at + size * 2 ≤ length (now s)) ⌝ }
-{
-    let mut i = 0;
-    while i < size {
-        data[i] = byte_at(s, at + i * 2);
-        i += 1;
-    }
 }
 
 // An unknown kind of line has no answer.

@@ -6,6 +6,8 @@ mod colour_list;
 mod decoders_list;
 mod drawn;
 mod hex;
+mod jobs_list;
+mod lines;
 mod said;
 
 use libc::STDOUT_FILENO;
@@ -27,6 +29,8 @@ fn main() {
         b"drawing's refusals",
         canvas_list::replay(b"drawing_refusals.txt"),
     );
+    tell(b"jobs", jobs_list::replay(b"jobs.txt"));
+    tell(b"jobs' refusals", jobs_list::replay(b"jobs_refusals.txt"));
 }
 
 pub struct Tally {

@@ -89,7 +89,7 @@ pub fn says(s: &[u8], at: usize, said: Said) -> bool
     said.width == number_at(s, at + 131, 8) && said.height == number_at(s, at + 140, 8)
 }
 
-fn same(t: ThermalImage, u: ThermalImage) -> bool {
+pub fn same(t: ThermalImage, u: ThermalImage) -> bool {
     if t.auto_grow != u.auto_grow {
         return false;
     }

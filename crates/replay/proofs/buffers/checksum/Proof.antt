@@ -1,12 +1,15 @@
 -- `replay::buffers::checksum` meets its contract. Assumes nothing.
-use Prim.Native.Nat.{_-_, _≤_, _^_, _<_}
+use Prim.Native.Nat.{_-_, _≤_}
 use lib.ListN.{length}
 use borrow.Author.Needs.{needs}
 use Rattle.replay.proofs.buffers.checksum.Statement.{statement}
 use Rattle.replay.proofs.buffers.checksum.Tie as tie
+use Rattle.replay.proofs.buffers.checksum.Reads as reads
+use Rattle.replay.proofs.buffers.checksum.Lts as lts
+use Rattle.replay.proofs.buffers.summed.Reads as summed-reads
 
 abbrev Inv-loop : tie.InvT-loop
-Inv-loop bytes sum₀ i₀ sum i = (i ≤ length bytes) × (sum < 2 ^ 32)
+Inv-loop bytes sum₀ i₀ sum i = i ≤ length bytes
 
 abbrev μ-loop : tie.MeasureT-loop
 μ-loop bytes sum₀ i₀ sum i = length bytes - i
@@ -14,14 +17,11 @@ abbrev μ-loop : tie.MeasureT-loop
 loop-holds : tie.Need-loop-holds Inv-loop μ-loop
 loop-holds c = search needs
 
-shared-slice-read-wide : tie.Need-shared-slice-read-wide Inv-loop μ-loop
-shared-slice-read-wide c = search needs
+shared-slice-read-summed : tie.Need-shared-slice-read-summed Inv-loop μ-loop
+shared-slice-read-summed c = search needs
 
-wide-requires : tie.Need-wide-requires Inv-loop μ-loop
-wide-requires c κs = search needs
-
-mul-sum : tie.Need-mul-sum Inv-loop μ-loop
-mul-sum c = search needs
+summed-requires : tie.Need-summed-requires Inv-loop μ-loop
+summed-requires c κs = search needs
 
 add-i : tie.Need-add-i Inv-loop μ-loop
 add-i c = search needs
@@ -45,9 +45,8 @@ checksum-spec =
     Inv-loop
     μ-loop
     loop-holds
-    shared-slice-read-wide
-    wide-requires
-    mul-sum
+    shared-slice-read-summed
+    summed-requires
     add-i
     loop-less
     loop-again

@@ -1,10 +1,10 @@
--- `replay::decoders_list::unpack` meets its contract. Assumes nothing.
+-- `replay::lines::unpack` meets its contract. Assumes nothing.
 use mathlib.Core.Path.{_≡_}
 use Prim.Native.Nat.{_-_, _≤_}
 use lib.ListN.{length}
 use borrow.Author.Needs.{needs}
-use Rattle.replay.proofs.decoders_list.unpack.Statement.{statement}
-use Rattle.replay.proofs.decoders_list.unpack.Tie as tie
+use Rattle.replay.proofs.lines.unpack.Statement.{statement}
+use Rattle.replay.proofs.lines.unpack.Tie as tie
 
 abbrev Inv-loop : tie.InvT-loop
 Inv-loop s at size data₀ i₀ «data» i = (i ≤ size) × (length «data» ≡ length data₀)

@@ -1,23 +1,36 @@
--- `replay::decoders_list::tally` meets its contract. Assumes nothing.
+-- `replay::lines::tally` meets its contract. Assumes nothing.
 use Prim.Native.Nat.{_+_, _-_, _≤_}
 use mathlib.Core.Path.{_≡_}
 use mathlib.Core.Logic.{⊎-elim}
+use native.Mathlib.Omega.{arith}
 use lib.ListN.{length}
+use Rattle.replay.proofs.Heads.{head-range}
 use borrow.Author.Needs.{needs}
-use Rattle.replay.proofs.decoders_list.tally.Statement.{statement}
-use Rattle.replay.proofs.decoders_list.tally.Tie as tie
+use Rattle.replay.proofs.lines.tally.Statement.{statement}
+use Rattle.replay.proofs.lines.tally.Tie as tie
+use Rattle.replay.proofs.lines.tally.Reads as reads
+use Rattle.replay.proofs.lines.tally.Lts as lts
+use Rattle.replay.proofs.hex.number_at.Reads as number-at-reads
+use Rattle.replay.proofs.lines.agrees.Reads as agrees-reads
+use Rattle.replay.proofs.lines.head_of.Reads as head-of-reads
 
 abbrev Inv-loop : tie.InvT-loop
-Inv-loop lines data₀ out₀ agree₀ differ₀ at₀ «data» out agree differ at = (at ≤ length lines) × (agree + differ ≤ at) × (length «data» ≡ length data₀) × (length out ≡ length out₀)
+Inv-loop lines jobs data₀ out₀ head agree₀ differ₀ at₀ «data» out agree differ at = (at ≤ length lines) × (agree + differ ≤ at) × (length «data» ≡ length data₀) × (length out ≡ length out₀) × (76 ≤ head) × (head ≤ 79)
 
 abbrev μ-loop : tie.MeasureT-loop
-μ-loop lines data₀ out₀ agree₀ differ₀ at₀ «data» out agree differ at = length lines - at
+μ-loop lines jobs data₀ out₀ head agree₀ differ₀ at₀ «data» out agree differ at = length lines - at
+
+head-of-requires : tie.Need-head-of-requires Inv-loop μ-loop
+head-of-requires c κs = search needs
 
 loop-holds : tie.Need-loop-holds Inv-loop μ-loop
-loop-holds c = search needs
+loop-holds c = omega (arith, head-range (c .before .before .before .before .args .jobs) (c .head-of .ensures))
 
 sub-loop : tie.Need-sub-loop Inv-loop μ-loop
 sub-loop c = search needs
+
+sub-number-at : tie.Need-sub-number-at Inv-loop μ-loop
+sub-number-at c = search needs
 
 add-number-at : tie.Need-add-number-at Inv-loop μ-loop
 add-number-at c = search needs
@@ -50,7 +63,7 @@ returns : tie.Need-returns Inv-loop μ-loop
 returns c = search needs
 
 agrees-requires : tie.Need-agrees-requires Inv-loop μ-loop
-agrees-requires c κs = search needs
+agrees-requires c κs = rw (← c .before .before .before .before .before .before .head-of .ensures) (omega arith)
 
 add-agree : tie.Need-add-agree Inv-loop μ-loop
 add-agree c = search needs
@@ -82,8 +95,10 @@ tally-spec =
     (tie.spec
     Inv-loop
     μ-loop
+    head-of-requires
     loop-holds
     sub-loop
+    sub-number-at
     add-number-at
     number-at-requires
     cast-size
