@@ -3,4 +3,5 @@ mod Pictures
 mod Rules
 mod Rows
 pub mod Demand
+pub mod Canvas
 mod Examples

@@ -1,2 +1,3 @@
--- What is claimed of a run and a plan of one job.
+-- What is claimed of a run and a plan of one job, and of a command and the canvas operations.
 pub mod Agreement
+pub mod Canvas

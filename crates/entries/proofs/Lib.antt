@@ -2,5 +2,5 @@ mod Made
 pub mod Good
 mod Tests
 mod Images
-mod Drawing
+pub mod Drawing
 mod Unique

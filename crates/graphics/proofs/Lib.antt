@@ -1,4 +1,4 @@
-mod Places
+pub mod Places
 mod Scaling
 pub mod Codes
 mod Answers

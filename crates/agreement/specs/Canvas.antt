@@ -1,0 +1,78 @@
+-- The rules of a run are those of the canvas: 01, "Jobs". By what numbers commands are dropped and what kept ones make of the bytes stands in job and in runs; `OnCanvas` claims that for each command both are what the canvas operation gives.
+use Prim.Native.Nat.{ℕ, _+_, _*_, _≤_}
+use mathlib.Core.Path.{_≡_}
+use mathlib.Core.List.{List}
+use mathlib.Core.Bool.{true}
+use lib.ListN.{length, take, drop}
+use Rattle.numbers.specs.Numbers.{done}
+use Rattle.colour.specs.declared.RGBA.{RGBA}
+use Rattle.graphics.specs.declared.formats.Format.the-variants.{Bits}
+use Rattle.graphics.specs.Decoding.{factor, decoded, decodedOn}
+use Rattle.job.specs.declared.commands.Command.{Command}
+use Rattle.job.specs.declared.commands.Command.the-variants.{Rectangle, Image, Margin, Flip}
+use Rattle.job.specs.Dropping.{refusal, grown}
+use Rattle.entries.specs.Entries.{multiplies}
+use Rattle.thermal_image.specs.declared.ThermalImage.{ThermalImage}
+use Rattle.thermal_image.specs.declared.Answer.{Answer}
+use Rattle.thermal_image.specs.Canvas.{canvas, finished, first, unsound, roomRefusal, marginRefusal, lowered, lowerOn}
+use Rattle.drawing.specs.Drawing.{putRefusal, put, putOn, rectRefusal, rect, rectOn, flipRefusal, flip, flipOn}
+use Rattle.runs.specs.Steps.{obeyedOn}
+
+-- what an operation gives: its number, its answer, and the bytes that it leaves
+pub record Outcome : Type 0 where
+  pub number : ℕ
+  pub answer : Answer
+  pub bytes : List ℕ
+
+-- the data of an image in the job's bytes s
+abbrev pub dataOf : List ℕ → ℕ → ℕ → List ℕ
+dataOf s start size = take size (drop start s)
+
+-- pixels put where decoding, which answers `number` and the sizes w and h, is done
+unfoldable pub imageOutcome : ℕ → ℕ → ℕ → ℕ → ℕ → ℕ → List ℕ → ThermalImage → List ℕ → Outcome
+imageOutcome number mode x y w h pixels t l = record {
+  number = first number (putRefusal t x y w h (length pixels) (length l));
+  answer = put t x y w h (length pixels) (length l);
+  bytes = putOn (multiplies mode) t x y w h pixels l;
+}
+
+-- the canvas operation of a command, on the canvas t in the buffer l. An image is decoded to the buffer `out` first
+unfoldable pub outcome : List ℕ → List ℕ → ThermalImage → List ℕ → Command → Outcome
+outcome s out t l (Rectangle x y w h c mode) = record {
+  number = rectRefusal t x y w h (length l);
+  answer = rect t x y w h (length l);
+  bytes = rectOn (multiplies mode) t x y w h c l;
+}
+outcome s out t l (Image x y w h sx sy c mode start size) =
+    let d = decoded Bits w h sx sy (length (dataOf s start size)) (length out) in
+    imageOutcome (d .number) mode x y (d .w) (d .h) (decodedOn Bits (dataOf s start size) w h sx sy c out) t l
+outcome s out t l (Margin m) = record {
+  number = marginRefusal t m (length l);
+  answer = lowered t m (length l);
+  bytes = lowerOn t m l;
+}
+outcome s out t l (Flip x y w h) = record {
+  number = flipRefusal t x y w h (length l);
+  answer = flip t x y w h (length l);
+  bytes = flipOn t x y w h l;
+}
+
+-- an image's data lie in the job's bytes, as every sound job's do, and `out` is as long as its pixels
+unfoldable pub Lent : List ℕ → List ℕ → Command → Type 0
+Lent s out (Rectangle x y w h c mode) = Unit {0}
+Lent s out (Image x y w h sx sy c mode start size) = (start + size ≤ length s) × (length out ≡ 4 * (w * factor sx * (h * factor sy)))
+Lent s out (Margin m) = Unit {0}
+Lent s out (Flip x y w h) = Unit {0}
+
+-- what an operation gives, beside the command c on paper W wide, H rows high so far, in the buffer l
+pub record OnCanvas (s : List ℕ) (W H : ℕ) (paper : RGBA) (l : List ℕ) (c : Command) (o : Outcome) : Type 0 where
+  -- what the command is dropped for; else only a buffer too short for the new height is refused, which a run decides at its start
+  pub number : o .number ≡ first (refusal W H c) (roomRefusal W (grown H c) (length l))
+  pub answer : o .number ≡ done → o .answer ≡ finished (canvas W (grown H c) true paper)
+  pub bytes : o .number ≡ done → o .bytes ≡ obeyedOn s W paper H c l
+
+-- for every command and every sound canvas with growth on
+abbrev pub CommandsOnCanvas : Type 0
+CommandsOnCanvas =
+    (s out l : List ℕ) (W H : ℕ) (paper : RGBA) (c : Command) → 1 ≤ W → unsound (canvas W H true paper) (length l) ≡ done → Lent s out c
+    → OnCanvas s W H paper l c (outcome s out (canvas W H true paper) l c)
