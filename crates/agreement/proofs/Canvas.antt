@@ -38,7 +38,7 @@ use Rattle.drawing.specs.Drawing.{tallAfter, sideRefusal, emptyRefusal, acrossR
 use Rattle.drawing.proofs.Laws.{crop-min, crop-grown, tall-grown, rect-grown, rect-record, rect-placed, put-record, put-placed, flip-record}
 use Rattle.drawing.proofs.Equal.{pixel-in}
 use Rattle.runs.specs.Steps as steps
-use Rattle.agreement.specs.Canvas.{dataOf, imageOutcome, outcome, Lent, OnCanvas, CommandsOnCanvas}
+use Rattle.agreement.specs.Canvas.{dataOf, imageOutcome, outcome, Inside, pixelBytes, OnCanvas, CommandsOnCanvas}
 
 -- a test of an order, whatever is refused after it
 step : (t : Bool) {k : ℕ} (a r : ℕ) → (k ≡ done → ⊥) → first (if t then k else a) r ≡ first (if t then k else done) (first a r)
@@ -128,7 +128,7 @@ module _ (s : List ℕ) (W H : ℕ) (paper : RGBA) (l : List ℕ) (some : 1 ≤ 
 
   -- ---- an image: decoded, then put
 
-  module _ (out : List ℕ) (x y w h sx sy : ℕ) (c : RGBA) (mode start size : ℕ) (lent : Lent s out (Image x y w h sx sy c mode start size)) where
+  module _ (out : List ℕ) (x y w h sx sy : ℕ) (c : RGBA) (mode start size : ℕ) (inside : start + size ≤ length s) (long : length out ≡ 4 * (w * factor sx * (h * factor sy))) where
     abbrev bytes : List ℕ
     bytes = dataOf s start size
 
@@ -149,16 +149,11 @@ module _ (s : List ℕ) (W H : ℕ) (paper : RGBA) (l : List ℕ) (some : 1 ≤ 
     entry = imageEntry W x y w h (factor sx) (factor sy) c mode start
 
     bytes-length : length bytes ≡ size
-    unfolding Lent
-    bytes-length = length-take-le size (drop start s) (omega (arith, lent .0, length-drop start s))
-
-    out-length : length out ≡ 4 * (wide * tall)
-    unfolding Lent
-    out-length = lent .1
+    bytes-length = length-take-le size (drop start s) (omega (arith, length-drop start s))
 
     pixels-length : length pixels ≡ 4 * (wide * tall)
     unfolding decodedOn output
-    pixels-length = by (eqb decoding done) ∙ out-length
+    pixels-length = by (eqb decoding done) ∙ long
       where
         by : (b : Bool) → length (if b then change (within 0 (wide * tall)) (λ i _. pixelOf Bits bytes w h (factor sx) (factor sy) c (i % wide) (i / wide)) out else out) ≡ length out
         by true = length-change _ _ out
@@ -168,7 +163,7 @@ module _ (s : List ℕ) (W H : ℕ) (paper : RGBA) (l : List ℕ) (some : 1 ≤ 
     image-order : dropping.imageRefusal W H x y w h (factor sx) (factor sy) size ≡ first decoding (dropping.putRefusal W H x y wide tall)
     unfolding refusal lacksRoom dropping.imageRefusal first
     image-order =
-        rw (bytes-length, out-length, le-ltb (4 * (wide * tall)) (4 * (wide * tall)) (omega arith)) (by (isLarge w h (factor sx) (factor sy)) (not (eqb size (bytesOf Bits w h))) _)
+        rw (bytes-length, long, le-ltb (4 * (wide * tall)) (4 * (wide * tall)) (omega arith)) (by (isLarge w h (factor sx) (factor sy)) (not (eqb size (bytesOf Bits w h))) _)
       where
         by : (a b : Bool) (p : ℕ) → (if a then tooLarge else if b then wrongLength else p) ≡ first (if a then tooLarge else if b then wrongLength else done) p
         by true b p = refl
@@ -196,7 +191,7 @@ module _ (s : List ℕ) (W H : ℕ) (paper : RGBA) (l : List ℕ) (some : 1 ≤ 
         let row : j / factor sy < h = div-lt-iff-lt-mul (factor-some sy) .1 v in
         let near : place Bits w h (i / factor sx) (j / factor sy) < size = in-data Bits w h (i / factor sx) (j / factor sy) col row (omega (arith, d .bytes, bytes-length)) in
         rw (eq-eqb decoding done e)
-        (change-picked _ _ out (j * wide + i) (within-yes 0 (wide * tall) (j * wide + i) (omega arith) k) (omega (arith, out-length))
+        (change-picked _ _ out (j * wide + i) (within-yes 0 (wide * tall) (j * wide + i) (omega arith) k) (omega (arith, long))
         ∙ rw (p .0, p .1) (ap (λ (b : ℕ). withAlpha c (b / 2 ^ (7 - i / factor sx % 8) % 2 * 255)) (getD-take size (drop start s) _ 0 near)))
 
     drawn-same : decoding ≡ done → (i j : ℕ) → i < wide → j < tall → (d : RGBA) → pixelsDrawn (multiplies mode) pixels wide i j d ≡ drawn (multiplies mode) (entryPixel s entry i j) d
@@ -243,7 +238,8 @@ module _ (s : List ℕ) (W H : ℕ) (paper : RGBA) (l : List ℕ) (some : 1 ≤ 
         by false e = rw e (image-refused (eqb-false decoding done e))
 
 pub commands-on-canvas : CommandsOnCanvas
-commands-on-canvas s out l W H paper (Rectangle x y w h c mode) some sound lent = rectangle-same s W H paper l some sound out x y w h c mode
-commands-on-canvas s out l W H paper (Image x y w h sx sy c mode start size) some sound lent = image-same s W H paper l some sound out x y w h sx sy c mode start size lent
-commands-on-canvas s out l W H paper (Margin m) some sound lent = margin-same s W H paper l some sound out m
-commands-on-canvas s out l W H paper (Flip x y w h) some sound lent = flip-same s W H paper l some sound out x y w h
+unfolding Inside pixelBytes
+commands-on-canvas s out l W H paper (Rectangle x y w h c mode) some sound inside long = rectangle-same s W H paper l some sound out x y w h c mode
+commands-on-canvas s out l W H paper (Image x y w h sx sy c mode start size) some sound inside long = image-same s W H paper l some sound out x y w h sx sy c mode start size inside long
+commands-on-canvas s out l W H paper (Margin m) some sound inside long = margin-same s W H paper l some sound out m
+commands-on-canvas s out l W H paper (Flip x y w h) some sound inside long = flip-same s W H paper l some sound out x y w h

@@ -4,4 +4,5 @@ mod Rules
 mod Rows
 pub mod Demand
 pub mod Canvas
+pub mod Operations
 mod Examples

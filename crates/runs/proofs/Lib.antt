@@ -1,5 +1,5 @@
 pub mod Pictures
-mod Canvas
+pub mod Canvas
 mod Going
 mod Answers
 mod Unique
