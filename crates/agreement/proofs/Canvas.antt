@@ -209,7 +209,7 @@ module _ (s : List ℕ) (W H : ℕ) (paper : RGBA) (l : List ℕ) (some : 1 ≤ 
         ∙ area-by _ _ _ _ _ _ _ _ (λ i j u v. drawn-same e i j (omega arith) v _)
         ∙ sym (entry-area entry)
 
-    -- done, and refused
+    -- done; and refused, whatever pixels there are
     image-put : decoding ≡ done → OnCanvas s W H paper l (Image x y w h sx sy c mode start size) (imageOutcome done mode x y wide tall pixels t l)
     unfolding imageOutcome dropping.refusal dropping.grown first
     image-put e =
@@ -219,9 +219,9 @@ module _ (s : List ℕ) (W H : ℕ) (paper : RGBA) (l : List ℕ) (some : 1 ≤ 
           bytes = λ f. image-bytes e f;
         }
 
-    image-refused : (decoding ≡ done → ⊥) → OnCanvas s W H paper l (Image x y w h sx sy c mode start size) (imageOutcome decoding mode x y 0 0 pixels t l)
+    image-refused : (any : List ℕ) → (decoding ≡ done → ⊥) → OnCanvas s W H paper l (Image x y w h sx sy c mode start size) (imageOutcome decoding mode x y 0 0 any t l)
     unfolding imageOutcome dropping.refusal
-    image-refused e =
+    image-refused any e =
         let kept = first-some decoding (dropping.putRefusal W H x y wide tall) e in
         record {
           number = rw image-order (rw (← kept) (sym (first-some decoding _ e) ∙ first-some decoding _ e));
@@ -235,7 +235,7 @@ module _ (s : List ℕ) (W H : ℕ) (paper : RGBA) (l : List ℕ) (some : 1 ≤ 
       where
         by : (b : Bool) → eqb decoding done ≡ b → Same out (Image x y w h sx sy c mode start size)
         by true e = rw e (image-put (eqb-true decoding done e))
-        by false e = rw e (image-refused (eqb-false decoding done e))
+        by false e = rw e (image-refused _ (eqb-false decoding done e))
 
 pub commands-on-canvas : CommandsOnCanvas
 unfolding Inside pixelBytes
