@@ -1,6 +1,5 @@
-mod Joining
 pub mod Rows
+mod Stretching
 mod Unpacking
 mod Stamping
-mod Stretching
 mod Unique

@@ -1,6 +1,6 @@
--- The bits of a byte drawn on dots, byte by byte. Assumes nothing.
+-- Bits drawn on dots. Assumes nothing.
 use mathlib.Core.Path.{_≡_, refl, ap, _∙_}
-use mathlib.Core.Logic.{inr}
+use mathlib.Core.Logic.{_≢_, inr}
 use mathlib.Core.Bool.{Bool, true, false, not}
 use mathlib.Core.List.{List}
 use Prim.Native.Nat.{ℕ, _+_, _-_, _*_, _/_, _%_, _^_, _≤_, _<_}
@@ -12,13 +12,14 @@ use lib.Dec.{eqb}
 use Rattle.colour.specs.Choice.{if_then_else_}
 use Rattle.colour.specs.Colour.{withAlpha}
 use Rattle.colour.specs.declared.RGBA.{RGBA}
-use Rattle.dots.specs.Dots.{tab, dotAt, chan, drawn}
+use Rattle.dots.specs.Dots.{tab, dotAt, chan, change, within, drawn}
 use Rattle.dots.specs.Tables.{lanes, factors, terms, Whole}
-use Rattle.dots.proofs.Laws.{getD-tab, byte-of, drawn-none}
+use Rattle.dots.proofs.Laws.{getD-tab, byte-of, change-idle, drawn-none}
 use Rattle.dots.proofs.Bytes.{Over, over-none, over-step, over-change}
 use Rattle.dots.proofs.Mixed.{mixed, Bytes, lane-at, lanes-fit, mixed-dot}
-use Rattle.bits.specs.Bits.{pixelDrawn, byteOn}
-use Rattle.bits.proofs.Unpacking.{Told, off, lit, told}
+use Rattle.bits.specs.Bits.{pixelDrawn}
+use Rattle.bits.specs.Steps.{byteOn, bitOn}
+use Rattle.bits.proofs.Unpacking.{Told, off, lit, told, is-one}
 
 -- a bit is drawn at full alpha
 pub full : (t : Bool) (c : RGBA) → Whole t (withAlpha c 255)
@@ -26,6 +27,19 @@ full t c = record { some = omega arith; full = λ e. refl }
 
 pub ink : (c : RGBA) → Bytes c → Bytes (withAlpha c 255)
 ink c p = record { r = p .r; g = p .g; b = p .g; a = omega arith }
+
+-- ---- the dots of a stretched bit
+
+pub bit-kept : {bit : ℕ} (t : Bool) (c : RGBA) (at n : ℕ) (l : List ℕ) → bit ≡ 0 → l ≡ bitOn (pixelDrawn t c) bit at n l
+unfolding bitOn
+bit-kept t c at n l z = change-idle (within at (at + n)) _ l (λ i _. rw z (drawn-none t (withAlpha c 0) (dotAt l i) refl))
+
+pub bit-mixed : {bit : ℕ} {p : RGBA} (t : Bool) (c : RGBA) (at n : ℕ) (l : List ℕ) {m : List ℕ} → bit < 2 → bit ≢ 0 → p ≡ withAlpha c 255
+    → m ≡ change (within at (at + n)) (λ _ s. drawn t p s) l → m ≡ bitOn (pixelDrawn t c) bit at n l
+unfolding bitOn
+bit-mixed {bit} t c at n l h z ep em = let o : bit ≡ 1 = is-one h z in em ∙ rw (ep, o)
+
+-- ---- the bits of a byte
 
 -- whether byte j's mask meets the byte
 abbrev pub on : ℕ → List ℕ → ℕ → Bool

@@ -1,12 +1,8 @@
 -- Each public function's contract leaves one answer or one content of the buffer. Assumes nothing.
 use denote.Ref.{now}
-use Rattle.colour.proofs.OneAnswer.{OneAnswer, OneContent, both}
-use Rattle.bits.proofs.gather.dot_bits.Reads as dot-bits
+use Rattle.colour.proofs.OneAnswer.{OneContent, both}
 use Rattle.bits.proofs.unpack.unpack_row.Reads as unpack-row
 use Rattle.bits.proofs.stamp.stamp_row.Reads as stamp-row
-
-dot-bits-one : OneAnswer dot-bits.Post
-dot-bits-one k a x y e f p q = both p q
 
 unpack-row-one : OneContent unpack-row.Post (λ k e. now (e .0))
 unpack-row-one k a x y e f p q = both p q

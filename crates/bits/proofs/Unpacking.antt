@@ -1,6 +1,7 @@
 -- A bit told by a mask, and the dot that it leaves where it is put or blended. Assumes nothing.
-use mathlib.Core.Path.{_≡_, refl, ap, _∙_}
-use mathlib.Core.Bool.{Bool, true, false, not}
+use mathlib.Core.Path.{_≡_, refl, sym, ap, _∙_}
+use mathlib.Core.Logic.{_≢_, ⊎-elim}
+use mathlib.Core.Bool.{Bool, true, false, not, _&&_, true≢false}
 use mathlib.Core.List.{List}
 use Prim.Native.Nat.{ℕ, zero, suc, _+_, _-_, _*_, _/_, _%_, _^_, _≤_, _<_}
 use native.Mathlib.Nat.{mod-lt, zero-mul, one-mul, add-zero}
@@ -9,14 +10,15 @@ use lib.Bits.{bitAnd, and-high}
 use lib.Pow.{pow-pos, pow-add}
 use lib.ListN.{length, getD}
 use lib.Dec.{eqb}
-use borrow.Author.Tests.{ne-eqb}
+use borrow.Author.Tests.{eqb-true, eqb-false, ne-eqb}
 use Rattle.colour.specs.Choice.{if_then_else_}
 use Rattle.colour.specs.Colour.{withAlpha}
 use Rattle.colour.specs.declared.RGBA.{RGBA}
 use Rattle.colour.proofs.Laws.{blended-none, blended-full}
 use Rattle.dots.specs.Dots.{tab, dotAt, setDot, change, within}
-use Rattle.dots.proofs.Laws.{getD-tab, run-none, run-turn, run-old}
-use Rattle.bits.specs.Bits.{landed, pixelLanded, byteOn}
+use Rattle.dots.proofs.Laws.{below, getD-tab, change-idle, change-by, run-none, run-turn, run-old}
+use Rattle.bits.specs.Bits.{landed, pixelLanded}
+use Rattle.bits.specs.Steps.{byteOn, bitOn}
 
 masked : (b q : ℕ) → bitAnd b (2 ^ q) ≡ b / 2 ^ q % 2 * 2 ^ q
 masked b q =
@@ -36,6 +38,9 @@ told b q e = rw (e, masked) (go (b / 2 ^ q % 2) (2 ^ q) (mod-lt _ (omega arith))
     go (suc zero) p h z = lit (rw (one-mul p, ne-eqb p 0 (λ e. omega arith))) refl
     go (suc (suc x)) p h z = absurd (omega arith)
 
+pub is-one : {bit : ℕ} → bit < 2 → bit ≢ 0 → bit ≡ 1
+is-one {bit} h z = ⊎-elim (λ u. omega arith) (λ u. absurd (z (omega arith))) (below 0 bit)
+
 -- ---- the dot that a bit leaves
 
 pub on-landed : {on : Bool} (blend : Bool) (c d : RGBA) → on ≡ true → withAlpha c 255 ≡ landed blend (withAlpha c (if on then 255 else 0)) d
@@ -50,6 +55,23 @@ off-kept c d e f = rw (e, f) (blended-none (withAlpha c 0) d refl)
 pub off-put : {on blend : Bool} (c d : RGBA) → on ≡ false → blend ≡ false → withAlpha c 0 ≡ landed blend (withAlpha c (if on then 255 else 0)) d
 unfolding landed
 off-put c d e f = rw (e, f)
+
+-- ---- the dots of a stretched bit
+
+pub bit-left : (bit : ℕ) (blend : Bool) (c : RGBA) (at n : ℕ) (l : List ℕ) → (blend && eqb bit 0) ≡ true → l ≡ bitOn (pixelLanded blend c) bit at n l
+unfolding bitOn
+bit-left bit true c at n l e =
+    let z : bit ≡ 0 = eqb-true bit 0 e in
+    change-idle (within at (at + n)) _ l (λ i _. rw z (off-kept {on = false} c (dotAt l i) refl refl))
+bit-left bit false c at n l e = absurd (true≢false (sym e))
+
+pub bit-filled : (bit : ℕ) (blend : Bool) (c : RGBA) (at n : ℕ) (l : List ℕ) → bit < 2 → (blend && eqb bit 0) ≡ false
+    → change (within at (at + n)) (λ _ _. withAlpha c (bit * 255)) l ≡ bitOn (pixelLanded blend c) bit at n l
+unfolding bitOn landed
+bit-filled bit true c at n l h e =
+    let o : bit ≡ 1 = is-one h (eqb-false bit 0 e) in
+    rw o (change-by (within at (at + n)) _ _ l (λ i _. on-landed {on = true} true c (dotAt l i) refl))
+bit-filled bit false c at n l h e = refl
 
 -- ---- the bits of a byte: k are written, from dot `at` on
 

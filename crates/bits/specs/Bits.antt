@@ -1,9 +1,8 @@
 -- Rows of bits as dots: 01, "Decoding".
-use Prim.Native.Nat.{ℕ, zero, suc, _+_, _-_, _*_, _/_, _%_, _^_, _<_}
+use Prim.Native.Nat.{ℕ, _+_, _-_, _*_, _/_, _%_, _^_, _<_}
 use mathlib.Core.Bool.{Bool}
 use mathlib.Core.List.{List}
-use lib.ListN.{length, getD}
-use lib.Dec.{ltb, eqb}
+use lib.ListN.{getD}
 use Rattle.colour.specs.Choice.{if_then_else_}
 use Rattle.colour.specs.Colour.{withAlpha, blended}
 use Rattle.colour.specs.declared.RGBA.{RGBA}
@@ -42,19 +41,3 @@ pixelLanded blend c alpha d = landed blend (withAlpha c alpha) d
 -- the pixel of an alpha drawn on a dot, blending or multiplying
 abbrev pub pixelDrawn : Bool → RGBA → ℕ → RGBA → RGBA
 pixelDrawn multiply c alpha d = drawn multiply (withAlpha c alpha) d
-
--- ---- eight dots at a time
-
--- the bits f 0, .., f (n - 1) as a number, the first at the top
-unfoldable pub joined : (ℕ → ℕ) → ℕ → ℕ
-joined f zero = 0
-joined f (suc n) = joined f n * 2 + f n
-
--- a byte whose top n bits are those of the n dots from dot i on, i a multiple of 8. Unstretched it is the data's own byte, whose other bits are not looked at
-unfoldable pub dotBits : List ℕ → ℕ → ℕ → ℕ → ℕ → ℕ
-dotBits bytes from fx i n =
-    if eqb fx 1 then getD bytes (from + i / 8) 0 else joined (λ k. if ltb k n then bitAt bytes from ((i + k) / fx) else 0) 8
-
--- n dots from dot `at` on by the bits of a byte
-unfoldable pub byteOn : (ℕ → RGBA → RGBA) → ℕ → ℕ → ℕ → List ℕ → List ℕ
-byteOn f byte at n l = change (within at (at + n)) (λ i d. f (byte / 2 ^ (7 - (i - at)) % 2 * 255) d) l

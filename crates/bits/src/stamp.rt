@@ -8,11 +8,13 @@ ghost use Rattle.colour.specs.Choice.{if_then_else_};
 ghost use Rattle.colour.specs.Colour.{withAlpha};
 ghost use Rattle.dots.specs.Dots.{tab};
 ghost use Rattle.dots.specs.Tables.{lanes, factors, terms};
-ghost use Rattle.bits.specs.Bits.{Shown, bitsOn, pixelDrawn, byteOn};
-use super::gather::dot_bits;
-use super::gather::least;
+ghost use Rattle.bits.specs.Bits.{Shown, bitsOn, pixelDrawn};
+ghost use Rattle.bits.specs.Steps.{byteOn, bitOn};
+use super::bit::bit_at;
+use super::bit::least;
 use colour::RGBA;
 use dots::mix_byte;
+use dots::mix_run;
 
 fn stamp_byte(on: bool, s: u8, m: u16, k: u16) -> u8
     requires { ⌜ 255 * m + k ≤ 65153 ⌝ }
@@ -51,21 +53,21 @@ fn stamp_some(
     }
 }
 
-pub fn stamp_row(
+// A row that is not stretched, eight dots at a time.
+fn stamp_eights(
     buf: &mut [u8],
     at: usize,
     count: usize,
     data: &[u8],
     from: usize,
-    fx: usize,
     color: RGBA,
     multiply: bool,
     m: &[u16; 64],
     k: &[u16; 64],
 )
-    requires { ⌜ ((at + count) * 4 ≤ length (now buf)) × (0 < fx) × (count ≤ limit) × Shown from fx count (length (now «data»)) ⌝ }
+    requires { ⌜ ((at + count) * 4 ≤ length (now buf)) × Shown from 1 count (length (now «data»)) ⌝ }
     requires { ⌜ (now m ≡ lanes (factors multiply (withAlpha color 255))) × (now k ≡ lanes (terms multiply (withAlpha color 255))) ⌝ }
-    ensures { λ _. ⌜ now (buf .exit) ≡ bitsOn (pixelDrawn multiply color) (now («data» .entry)) from fx at count (now (buf .entry)) ⌝ }
+    ensures { λ _. ⌜ now (buf .exit) ≡ bitsOn (pixelDrawn multiply color) (now («data» .entry)) from 1 at count (now (buf .entry)) ⌝ }
 {
     let masks = [
         128,
@@ -104,8 +106,89 @@ pub fn stamp_row(
     let mut i = 0;
     while i < count {
         let n = least(8, count - i);
-        let byte = dot_bits(data, from, fx, i, n);
-        stamp_some(buf, at + i, byte, n, &masks, color, multiply, m, k);
+        stamp_some(
+            buf,
+            at + i,
+            data[from + i / 8],
+            n,
+            &masks,
+            color,
+            multiply,
+            m,
+            k,
+        );
         i += n;
     }
+}
+
+// The n dots of a stretched bit.
+fn stamp_bit(
+    buf: &mut [u8],
+    at: usize,
+    n: usize,
+    bit: u8,
+    color: RGBA,
+    multiply: bool,
+    m: &[u16; 64],
+    k: &[u16; 64],
+)
+    requires { ⌜ ((at + n) * 4 ≤ length (now buf)) × (bit < 2) ⌝ }
+    requires { ⌜ (now m ≡ lanes (factors multiply (withAlpha color 255))) × (now k ≡ lanes (terms multiply (withAlpha color 255))) ⌝ }
+    ensures { λ _. ⌜ now (buf .exit) ≡ bitOn (pixelDrawn multiply color) bit at n (now (buf .entry)) ⌝ }
+{
+    if bit == 0 {
+        return;
+    }
+    mix_run(buf, at, n, color.with_alpha(RGBA::OPAQUE), multiply, m, k);
+}
+
+// A stretched row, bit by bit, so that the dots of a bit are told by one look at it.
+fn stamp_stretched(
+    buf: &mut [u8],
+    at: usize,
+    count: usize,
+    data: &[u8],
+    from: usize,
+    fx: usize,
+    color: RGBA,
+    multiply: bool,
+    m: &[u16; 64],
+    k: &[u16; 64],
+)
+    requires { ⌜ ((at + count) * 4 ≤ length (now buf)) × (0 < fx) × (count ≤ limit) × Shown from fx count (length (now «data»)) ⌝ }
+    requires { ⌜ (now m ≡ lanes (factors multiply (withAlpha color 255))) × (now k ≡ lanes (terms multiply (withAlpha color 255))) ⌝ }
+    ensures { λ _. ⌜ now (buf .exit) ≡ bitsOn (pixelDrawn multiply color) (now («data» .entry)) from fx at count (now (buf .entry)) ⌝ }
+{
+    let mut x = 0;
+    let mut i = 0;
+    while i < count {
+        let n = least(fx, count - i);
+        let bit = bit_at(data, from, x);
+        stamp_bit(buf, at + i, n, bit, color, multiply, m, k);
+        i += n;
+        x += 1;
+    }
+}
+
+pub fn stamp_row(
+    buf: &mut [u8],
+    at: usize,
+    count: usize,
+    data: &[u8],
+    from: usize,
+    fx: usize,
+    color: RGBA,
+    multiply: bool,
+    m: &[u16; 64],
+    k: &[u16; 64],
+)
+    requires { ⌜ ((at + count) * 4 ≤ length (now buf)) × (0 < fx) × (count ≤ limit) × Shown from fx count (length (now «data»)) ⌝ }
+    requires { ⌜ (now m ≡ lanes (factors multiply (withAlpha color 255))) × (now k ≡ lanes (terms multiply (withAlpha color 255))) ⌝ }
+    ensures { λ _. ⌜ now (buf .exit) ≡ bitsOn (pixelDrawn multiply color) (now («data» .entry)) from fx at count (now (buf .entry)) ⌝ }
+{
+    if fx == 1 {
+        stamp_eights(buf, at, count, data, from, color, multiply, m, k);
+        return;
+    }
+    stamp_stretched(buf, at, count, data, from, fx, color, multiply, m, k);
 }

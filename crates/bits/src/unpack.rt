@@ -1,16 +1,17 @@
 // A row of bits put on dots, or blended onto them.
 ghost use mathlib.Core.Path.{_≡_};
-ghost use mathlib.Core.Bool.{true, false};
+ghost use mathlib.Core.Bool.{_&&_};
 ghost use Prim.Native.Nat.{_+_, _-_, _*_, _^_, _≤_, _<_, min};
+ghost use lib.Dec.{eqb};
 ghost use lib.ListN.{length};
 ghost use Rattle.numbers.specs.Numbers.{limit};
 ghost use Rattle.colour.specs.Choice.{if_then_else_};
 ghost use Rattle.colour.specs.Colour.{withAlpha};
 ghost use Rattle.dots.specs.Dots.{tab};
-ghost use Rattle.bits.specs.Bits.{landed, Shown, bitsOn, pixelLanded, byteOn};
-use super::gather::dot_bits;
-use super::gather::least;
-use super::gather::some_bit;
+ghost use Rattle.bits.specs.Bits.{landed, Shown, bitsOn, pixelLanded};
+ghost use Rattle.bits.specs.Steps.{byteOn, bitOn};
+use super::bit::bit_at;
+use super::bit::least;
 use colour::RGBA;
 use dots::fill_run;
 use dots::get_dot;
@@ -53,8 +54,51 @@ fn unpack_some(
     }
 }
 
-// Eight dots at a time.
+// A row that is not stretched, eight dots at a time.
 fn unpack_eights(
+    out: &mut [u8],
+    at: usize,
+    count: usize,
+    data: &[u8],
+    from: usize,
+    color: RGBA,
+    blend: bool,
+)
+    requires { ⌜ ((at + count) * 4 ≤ length (now out)) × Shown from 1 count (length (now «data»)) ⌝ }
+    ensures { λ _. ⌜ now (out .exit) ≡ bitsOn (pixelLanded blend color) (now («data» .entry)) from 1 at count (now (out .entry)) ⌝ }
+{
+    let masks = [128, 64, 32, 16, 8, 4, 2, 1];
+    let mut i = 0;
+    while i < count {
+        let n = least(8, count - i);
+        unpack_some(out, at + i, data[from + i / 8], n, &masks, color, blend);
+        i += n;
+    }
+}
+
+// A bit that is 0 and is blended leaves the dots as they are.
+fn leaves(bit: u8, blend: bool) -> bool
+    ensures { λ r. ⌜ r ≡ (blend && eqb bit 0) ⌝ }
+{
+    if blend {
+        return bit == 0;
+    }
+    false
+}
+
+// The n dots of a stretched bit. Where it is put the bit is a factor of the alpha, and not a test.
+fn unpack_bit(out: &mut [u8], at: usize, n: usize, bit: u8, color: RGBA, blend: bool)
+    requires { ⌜ ((at + n) * 4 ≤ length (now out)) × (bit < 2) ⌝ }
+    ensures { λ _. ⌜ now (out .exit) ≡ bitOn (pixelLanded blend color) bit at n (now (out .entry)) ⌝ }
+{
+    if leaves(bit, blend) {
+        return;
+    }
+    fill_run(out, at, n, color.with_alpha(bit * 255));
+}
+
+// A stretched row, bit by bit, so that the dots of a bit are told by one look at it.
+fn unpack_stretched(
     out: &mut [u8],
     at: usize,
     count: usize,
@@ -67,48 +111,15 @@ fn unpack_eights(
     requires { ⌜ ((at + count) * 4 ≤ length (now out)) × (0 < fx) × (count ≤ limit) × Shown from fx count (length (now «data»)) ⌝ }
     ensures { λ _. ⌜ now (out .exit) ≡ bitsOn (pixelLanded blend color) (now («data» .entry)) from fx at count (now (out .entry)) ⌝ }
 {
-    let masks = [128, 64, 32, 16, 8, 4, 2, 1];
-    let mut i = 0;
-    while i < count {
-        let n = least(8, count - i);
-        let byte = dot_bits(data, from, fx, i, n);
-        unpack_some(out, at + i, byte, n, &masks, color, blend);
-        i += n;
-    }
-}
-
-// A stretched row that is put: bit by bit, so that the dots of a bit are told by one look at it. The
-// bit is a factor of the alpha, and not a test.
-fn stretch_row(
-    out: &mut [u8],
-    at: usize,
-    count: usize,
-    data: &[u8],
-    from: usize,
-    fx: usize,
-    color: RGBA,
-)
-    requires { ⌜ ((at + count) * 4 ≤ length (now out)) × (0 < fx) × (count ≤ limit) × Shown from fx count (length (now «data»)) ⌝ }
-    ensures { λ _. ⌜ now (out .exit) ≡ bitsOn (pixelLanded false color) (now («data» .entry)) from fx at count (now (out .entry)) ⌝ }
-{
     let mut x = 0;
     let mut i = 0;
     while i < count {
         let n = least(fx, count - i);
-        let bit = some_bit(data, from, x, true);
-        fill_run(out, at + i, n, color.with_alpha(bit * 255));
+        let bit = bit_at(data, from, x);
+        unpack_bit(out, at + i, n, bit, color, blend);
         i += n;
         x += 1;
     }
-}
-
-fn by_bits(fx: usize, blend: bool) -> bool
-    ensures { λ r. ⌜ (r ≡ true → blend ≡ false) ⌝ }
-{
-    if blend {
-        return false;
-    }
-    fx != 1
 }
 
 pub fn unpack_row(
@@ -124,9 +135,9 @@ pub fn unpack_row(
     requires { ⌜ ((at + count) * 4 ≤ length (now out)) × (0 < fx) × (count ≤ limit) × Shown from fx count (length (now «data»)) ⌝ }
     ensures { λ _. ⌜ now (out .exit) ≡ bitsOn (pixelLanded blend color) (now («data» .entry)) from fx at count (now (out .entry)) ⌝ }
 {
-    if by_bits(fx, blend) {
-        stretch_row(out, at, count, data, from, fx, color);
+    if fx == 1 {
+        unpack_eights(out, at, count, data, from, color, blend);
         return;
     }
-    unpack_eights(out, at, count, data, from, fx, color, blend);
+    unpack_stretched(out, at, count, data, from, fx, color, blend);
 }

@@ -2,13 +2,13 @@
 use mathlib.Core.Path.{_≡_, refl, sym, ap, _∙_}
 use mathlib.Core.Bool.{Bool, true, false}
 use mathlib.Core.Logic.{inr}
-use mathlib.Core.List.{List, [], _∷_}
+use mathlib.Core.List.{List}
 use Prim.Native.Nat.{ℕ, _+_, _-_, _*_, _/_, _%_, _≤_, _<_}
 use native.Mathlib.Omega.{arith}
 use native.Mathlib.Nat.{mul-le-mul, mul-le-mul-right, add-zero}
 use lib.Dec.{eqb}
 use borrow.Author.Tests.{eqb-true, eqb-false, eq-eqb, ne-eqb}
-use lib.ListN.{length, getD, set}
+use lib.ListN.{length, getD, set, length-set}
 use Rattle.colour.specs.declared.RGBA.{RGBA}
 use Rattle.colour.specs.Choice.{if_then_else_}
 use Rattle.colour.specs.Channel.{blendByte, multiplyByte}
@@ -17,7 +17,7 @@ use Rattle.colour.proofs.Laws.{rgba-eq, by-256, blend-byte-full, blended-full, 
 use Rattle.dots.specs.Dots.{dotAt, chan, change, within, drawn}
 use Rattle.dots.specs.Tables.{lanes, factors, terms, Whole}
 use Rattle.dots.proofs.Laws.{getD-tab, each-byte, byte-of}
-use Rattle.dots.proofs.Bytes.{Over, over-none, over-step, over-change}
+use Rattle.dots.proofs.Bytes.{Over, over-none, over-step, over-change, fill-step}
 
 -- what the loop works out of a factor, a term and an old byte
 abbrev pub mixed : ℕ → ℕ → ℕ → ℕ
@@ -29,10 +29,20 @@ pub record Bytes (c : RGBA) : Type 0 where
   pub b : c .b ≤ 255
   pub a : c .a ≤ 255
 
--- the numbers of an array literal by their places
-pub four-at : (x y z w k : ℕ) → k < 4 → getD (x ∷ (y ∷ (z ∷ (w ∷ [])))) k 0 ≡ chan (rgba x y z w) k
+-- four more places of an array that is filled with four numbers over and over
+pub fill-four : (x : RGBA) (p : List ℕ) (j : ℕ) → j % 4 ≡ 0 → j + 4 ≤ length p → ((i : ℕ) → i < j → getD p i 0 ≡ chan x (i % 4))
+    → (i : ℕ) → i < j + 4 → getD (set (set (set (set p j (x .r)) (j + 1) (x .g)) (j + 2) (x .b)) (j + 3) (x .a)) i 0 ≡ chan x (i % 4)
 unfolding chan
-four-at x y z w = each-byte (λ k. getD (x ∷ (y ∷ (z ∷ (w ∷ [])))) k 0 ≡ chan (rgba x y z w) k) refl refl refl refl
+fill-four x p j even h before i u =
+    let e0 : j % 4 ≡ 0 = even in
+    let e1 : (j + 1) % 4 ≡ 1 = omega arith in
+    let e2 : (j + 2) % 4 ≡ 2 = omega arith in
+    let e3 : (j + 3) % 4 ≡ 3 = omega arith in
+    let F : ℕ → ℕ = λ k. chan x (k % 4) in
+    let a = fill-step p j (x .r) F (omega arith) before (rw e0) in
+    let b = fill-step (set p j (x .r)) (j + 1) (x .g) F (simp length-set (omega arith)) a (rw e1) in
+    let c = fill-step (set (set p j (x .r)) (j + 1) (x .g)) (j + 2) (x .b) F (simp length-set (omega arith)) (λ k v. b k (omega arith)) (rw e2) in
+    fill-step (set (set (set p j (x .r)) (j + 1) (x .g)) (j + 2) (x .b)) (j + 3) (x .a) F (simp length-set (omega arith)) (λ k v. c k (omega arith)) (rw e3) i (omega arith)
 
 pub lane-at : (x : RGBA) {l : List ℕ} → l ≡ lanes x → (j : ℕ) → j < 64 → getD l j 0 ≡ chan x (j % 4)
 unfolding lanes

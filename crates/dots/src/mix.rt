@@ -11,12 +11,14 @@ use colour::RGBA;
 fn lanes(x: u16, y: u16, z: u16, w: u16) -> [u16; 64]
     ensures { λ r. ⌜ r ≡ lanes (rgba x y z w) ⌝ }
 {
-    let four = [x, y, z, w];
     let mut p = [0u16; 64];
     let mut j = 0;
     while j < 64 {
-        p[j] = four[j % 4];
-        j += 1;
+        p[j] = x;
+        p[j + 1] = y;
+        p[j + 2] = z;
+        p[j + 3] = w;
+        j += 4;
     }
     p
 }

@@ -154,3 +154,17 @@ pub fn draw_entry(
     let own = first - e.y as usize;
     image_rows(buf, wide, row, e, own, last - first, data, multiply);
 }
+
+// The entry's part of a row that stands in a line alone. Most entries of a plan have none.
+pub fn draw_on_row(line: &mut [u8], wide: usize, e: Entry, row: usize, data: &[u8])
+    requires { ⌜ Placed wide 0 row 1 (length (now line)) × (goodEntry wide limit (length (now «data»)) e ≡ true) ⌝ }
+    ensures { λ _. ⌜ now (line .exit) ≡ entryRows (now («data» .entry)) e wide 0 row 1 (now (line .entry)) ⌝ }
+{
+    if row < e.y as usize {
+        return;
+    }
+    if row - e.y as usize >= e.h as usize {
+        return;
+    }
+    draw_entry(line, wide, 0, e, row, 1, data);
+}

@@ -8,7 +8,7 @@ ghost use Rattle.rows.specs.Rows.{goodSizes, goodEntries, goodPlan, refu
 use colour::RGBA;
 use dots::fill_run;
 use dots::get_dot;
-use entries::draw_entry;
+use entries::draw_on_row;
 use entries::good_entry;
 use job::kinds::MOST_COMMANDS;
 use numbers::BAD_PLAN;
@@ -114,7 +114,7 @@ fn draw_row(plan: Plan, row: u32, data: &[u8], line: &mut [u8])
     let mut i = 0;
     while i < plan.count {
         let e = plan.entries[i];
-        draw_entry(line, wide, 0, e, row as usize, 1, data);
+        draw_on_row(line, wide, e, row as usize, data);
         i += 1;
     }
 }

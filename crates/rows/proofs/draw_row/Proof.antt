@@ -17,7 +17,7 @@ use Rattle.rows.proofs.draw_row.Tie as tie
 use Rattle.rows.proofs.draw_row.Reads as reads
 use Rattle.rows.proofs.draw_row.Lts as lts
 use Rattle.dots.proofs.fill_run.Reads as fill-run-reads
-use Rattle.entries.proofs.draw_entry.Reads as draw-entry-reads
+use Rattle.entries.proofs.draw_on_row.Reads as draw-on-row-reads
 
 abbrev Inv-loop : tie.InvT-loop
 Inv-loop row «data» line₀ plan wide i₀ line i = Applied «data» (plan .width) (plan .count) (plan .entries) row line₀ i line
@@ -47,8 +47,8 @@ mul-e c = omega (arith, given (c .before .before .before .before .before .before
 element-copy-out-e : tie.Need-element-copy-out-e Inv-loop μ-loop
 element-copy-out-e c = omega (arith, given (c .before .before .before .before .before .before .before .before .before) .good .sizes .few)
 
-draw-entry-requires : tie.Need-draw-entry-requires Inv-loop μ-loop
-draw-entry-requires c κs =
+draw-on-row-requires : tie.Need-draw-on-row-requires Inv-loop μ-loop
+draw-on-row-requires c κs =
     let l = c .before .before .before .loop in
     let s = c .before .before .before .before .before .before .before .before .before .before .before in
     let g = given s in
@@ -61,7 +61,7 @@ loop-less : tie.Need-loop-less Inv-loop μ-loop
 loop-less c = omega arith
 
 loop-again : tie.Need-loop-again Inv-loop μ-loop
-loop-again c = let l = c .before .before .before .before .before .before .loop in applied-next _ _ _ _ _ _ (given (c .before .before .before .before .before .before .before .before .before .before .before .before .before .before) .good .sizes .some) (l .inv) (c .before .before .before .before .before .loop-test .taken) (c .before .before .draw-entry .ensures)
+loop-again c = let l = c .before .before .before .before .before .before .loop in applied-next _ _ _ _ _ _ (given (c .before .before .before .before .before .before .before .before .before .before .before .before .before .before) .good .sizes .some) (l .inv) (c .before .before .before .before .before .loop-test .taken) (c .before .before .draw-on-row .ensures)
 
 same-length : tie.Need-same-length Inv-loop μ-loop
 same-length c = omega (arith, c .before .loop .inv .same)
@@ -80,7 +80,7 @@ draw-row-spec =
     loop-holds
     mul-e
     element-copy-out-e
-    draw-entry-requires
+    draw-on-row-requires
     add-i
     loop-less
     loop-again

@@ -1,77 +1,38 @@
 -- `bits::stamp::stamp_row` meets its contract. Assumes nothing.
-use mathlib.Core.Path.{refl}
-use Prim.Native.Nat.{_-_}
 use native.Mathlib.Omega.{arith}
-use Rattle.dots.specs.Dots.{tab}
-use Rattle.bits.specs.Bits.{pixelDrawn}
-use Rattle.bits.proofs.Rows.{Bits, bits-start, bits-next, bits-shown, bits-end}
 use borrow.Author.Needs.{needs}
 use Rattle.bits.proofs.stamp.stamp_row.Statement.{statement}
 use Rattle.bits.proofs.stamp.stamp_row.Tie as tie
 use Rattle.bits.proofs.stamp.stamp_row.Reads as reads
 use Rattle.bits.proofs.stamp.stamp_row.Lts as lts
-use Rattle.bits.proofs.gather.dot_bits.Reads as dot-bits-reads
-use Rattle.bits.proofs.gather.least.Reads as least-reads
-use Rattle.bits.proofs.stamp.stamp_some.Reads as stamp-some-reads
+use Rattle.bits.proofs.stamp.stamp_eights.Reads as stamp-eights-reads
+use Rattle.bits.proofs.stamp.stamp_stretched.Reads as stamp-stretched-reads
 
-abbrev Inv-loop : tie.InvT-loop
-Inv-loop buf₀ at count «data» from fx color multiply m k masks i₀ buf i = Bits (pixelDrawn multiply color) «data» from fx at count buf₀ i buf
+stamp-eights-requires : tie.Need-stamp-eights-requires
+stamp-eights-requires c κs = ((omega arith, λ i h. rw (c .before .if1 .taken) at (c .before .before .before .before .pre .0 .3 i h)), c .before .before .before .before .pre .1)
 
-abbrev μ-loop : tie.MeasureT-loop
-μ-loop buf₀ at count «data» from fx color multiply m k masks i₀ buf i = count - i
+same-length : tie.Need-same-length
+same-length c = search needs
 
-loop-holds : tie.Need-loop-holds Inv-loop μ-loop
-loop-holds c = bits-start _ _ _ _ _ _ _
+returns : tie.Need-returns
+returns c = rw (c .before .before .before .before .if1 .taken) (c .before .before .stamp-eights .ensures)
 
-sub-least : tie.Need-sub-least Inv-loop μ-loop
-sub-least c = search needs
+stamp-stretched-requires : tie.Need-stamp-stretched-requires
+stamp-stretched-requires c κs = search needs
 
-least-requires : tie.Need-least-requires Inv-loop μ-loop
-least-requires c κs = search needs
+same-length-2 : tie.Need-same-length-2
+same-length-2 c = search needs
 
-dot-bits-requires : tie.Need-dot-bits-requires Inv-loop μ-loop
-dot-bits-requires c κs = let l = c .before .before in let p = l .before .before .before .pre .0 in (p .1, omega arith, omega arith, bits-shown _ _ _ (p .3) (c .before .loop-test .taken) (c .least .ensures))
-
-add-stamp-some : tie.Need-add-stamp-some Inv-loop μ-loop
-add-stamp-some c = search needs
-
-stamp-some-requires : tie.Need-stamp-some-requires Inv-loop μ-loop
-unfolding tab
-stamp-some-requires c κs = ((omega arith, omega arith, refl), c .before .before .before .before .before .before .before .before .pre .1)
-
-add-i : tie.Need-add-i Inv-loop μ-loop
-add-i c = search needs
-
-loop-less : tie.Need-loop-less Inv-loop μ-loop
-loop-less c = search needs
-
-loop-again : tie.Need-loop-again Inv-loop μ-loop
-loop-again c =
-    let u = c .before .before in
-    let d = u .before .before .before in
-    let l = d .before .before .before in
-    bits-next _ _ _ _ _ _ _ (l .loop .inv) (d .before .before .loop-test .taken) (d .before .least .ensures) (d .dot-bits .ensures) (u .stamp-some .ensures)
-
-same-length : tie.Need-same-length Inv-loop μ-loop
-same-length c = omega arith
-
-returns : tie.Need-returns Inv-loop μ-loop
-returns c = bits-end _ _ _ _ _ _ _ (c .before .loop .inv) (c .loop-test .left)
+returns-2 : tie.Need-returns-2
+returns-2 c = search needs
 
 pub stamp-row-spec : {M : Type 1} → statement M
 stamp-row-spec =
     tie.close
     (tie.spec
-    Inv-loop
-    μ-loop
-    loop-holds
-    sub-least
-    least-requires
-    dot-bits-requires
-    add-stamp-some
-    stamp-some-requires
-    add-i
-    loop-less
-    loop-again
+    stamp-eights-requires
     same-length
-    returns)
+    returns
+    stamp-stretched-requires
+    same-length-2
+    returns-2)

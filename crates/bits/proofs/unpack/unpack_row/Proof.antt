@@ -1,27 +1,24 @@
 -- `bits::unpack::unpack_row` meets its contract. Assumes nothing.
+use native.Mathlib.Omega.{arith}
 use borrow.Author.Needs.{needs}
 use Rattle.bits.proofs.unpack.unpack_row.Statement.{statement}
 use Rattle.bits.proofs.unpack.unpack_row.Tie as tie
 use Rattle.bits.proofs.unpack.unpack_row.Reads as reads
 use Rattle.bits.proofs.unpack.unpack_row.Lts as lts
-use Rattle.bits.proofs.unpack.by_bits.Reads as by-bits-reads
-use Rattle.bits.proofs.unpack.stretch_row.Reads as stretch-row-reads
 use Rattle.bits.proofs.unpack.unpack_eights.Reads as unpack-eights-reads
+use Rattle.bits.proofs.unpack.unpack_stretched.Reads as unpack-stretched-reads
 
-by-bits-requires : tie.Need-by-bits-requires
-by-bits-requires c κs = search needs
-
-stretch-row-requires : tie.Need-stretch-row-requires
-stretch-row-requires c κs = search needs
+unpack-eights-requires : tie.Need-unpack-eights-requires
+unpack-eights-requires c κs = (omega arith, λ i h. rw (c .before .if1 .taken) at (c .before .before .before .before .pre .3 i h))
 
 same-length : tie.Need-same-length
 same-length c = search needs
 
 returns : tie.Need-returns
-returns c = let t = c .before .before .before .before in rw (t .before .by-bits .ensures (t .if1 .taken)) (c .before .before .stretch-row .ensures)
+returns c = rw (c .before .before .before .before .if1 .taken) (c .before .before .unpack-eights .ensures)
 
-unpack-eights-requires : tie.Need-unpack-eights-requires
-unpack-eights-requires c κs = search needs
+unpack-stretched-requires : tie.Need-unpack-stretched-requires
+unpack-stretched-requires c κs = search needs
 
 same-length-2 : tie.Need-same-length-2
 same-length-2 c = search needs
@@ -33,10 +30,9 @@ pub unpack-row-spec : {M : Type 1} → statement M
 unpack-row-spec =
     tie.close
     (tie.spec
-    by-bits-requires
-    stretch-row-requires
+    unpack-eights-requires
     same-length
     returns
-    unpack-eights-requires
+    unpack-stretched-requires
     same-length-2
     returns-2)

@@ -3,7 +3,8 @@ use mathlib.Core.Path.{_≡_, refl}
 use Prim.Native.Nat.{_-_, _≤_}
 use native.Mathlib.Omega.{arith}
 use lib.ListN.{length}
-use Rattle.bits.specs.Bits.{pixelLanded, byteOn}
+use Rattle.bits.specs.Bits.{pixelLanded}
+use Rattle.bits.specs.Steps.{byteOn}
 use Rattle.bits.proofs.Unpacking.{byte-start, byte-next}
 use borrow.Author.Needs.{needs}
 use Rattle.bits.proofs.unpack.unpack_some.Statement.{statement}
