@@ -1,4 +1,5 @@
-//! Jobs: their runs, their plans, and the rows of those, each against what the original draws.
+//! Jobs: their runs, their plans, the rows of those, and their listings by the program `strip`, each
+//! against what the original draws.
 
 mod asked;
 mod damaged;
@@ -8,7 +9,7 @@ use crate::report::{Place, Report, Verdict};
 use crate::space::{Space, SHIFTS};
 use asked::{Asked, Call};
 use damaged::PlanRow;
-use oracle::job::cases::{lent, Class};
+use oracle::job::cases::{at_limits, lent, Class};
 use oracle::random::Random;
 use oracle::rules::DONE;
 use std::fs;
@@ -17,11 +18,12 @@ use worked::Worked;
 pub use asked::read as read_job;
 pub use damaged::read as read_plan;
 
-/// Jobs, and how many there are of them in the quick setting.
-const CLASSES: [(usize, Class); 4] = [
+/// Jobs: how many there are of them in the quick setting, and of how many one is listed too.
+const CLASSES: [(usize, usize, Class); 4] = [
     // Small strips, of which there are the most.
     (
         100_000,
+        250,
         Class {
             widths: &[
                 1, 2, 3, 5, 7, 8, 9, 12, 15, 16, 17, 24, 31, 32, 33, 48, 63, 64,
@@ -35,6 +37,7 @@ const CLASSES: [(usize, Class); 4] = [
     // As wide as a receipt.
     (
         1_500,
+        15,
         Class {
             widths: &[256, 280, 384, 512, 576],
             rows: 190,
@@ -46,6 +49,7 @@ const CLASSES: [(usize, Class); 4] = [
     // As wide as can be.
     (
         300,
+        6,
         Class {
             widths: &[8_192, 10_000, 16_383, 16_384],
             rows: 12,
@@ -57,6 +61,7 @@ const CLASSES: [(usize, Class); 4] = [
     // As tall as can be.
     (
         300,
+        6,
         Class {
             widths: &[1, 2, 3, 8, 9],
             rows: 16_384,
@@ -70,11 +75,14 @@ const CLASSES: [(usize, Class); 4] = [
 pub fn compare(report: &mut Report) {
     let mut random = Random::new(8);
     let mut jobs = Jobs::new(report);
-    for (count, class) in &CLASSES {
+    for (count, apart, class) in &CLASSES {
         for _ in 0..*count {
             let bytes = class.bytes(&mut random);
-            jobs.compare(bytes, u64::MAX, report, &mut random);
+            jobs.compare(bytes, *apart, u64::MAX, report, &mut random);
         }
+    }
+    for bytes in at_limits(&mut random) {
+        jobs.count(Call::List, 0, &Worked::of(bytes), report, &mut random);
     }
 }
 
@@ -84,7 +92,10 @@ pub struct Jobs {
     translate: Place,
     row: Place,
     damaged: Place,
+    list: Place,
     spaces: Spaces,
+    /// Jobs that were compared.
+    jobs: usize,
 }
 
 impl Jobs {
@@ -94,31 +105,46 @@ impl Jobs {
             translate: report.row("translation of a job"),
             row: report.row("row of a plan"),
             damaged: report.row("row of a damaged plan"),
+            list: report.row("strip"),
             spaces: Spaces::default(),
+            jobs: 0,
         }
     }
 
     /// Compares a random job, in at most so many cases. A class comes as often as in the quick
     /// setting.
     pub fn any(&mut self, most: u64, report: &mut Report, random: &mut Random) {
-        let all: usize = CLASSES.iter().map(|(count, _)| count).sum();
+        let all: usize = CLASSES.iter().map(|(count, ..)| count).sum();
         let mut at = random.below(all);
-        let class = CLASSES.iter().find(|(count, _)| {
+        let class = CLASSES.iter().find(|(count, ..)| {
             let found = at < *count;
             at = at.saturating_sub(*count);
             found
         });
-        let bytes = class.expect("it is below their sum").1.bytes(random);
-        self.compare(bytes, most, report, random);
+        let (_, apart, class) = class.expect("it is below their sum");
+        self.compare(class.bytes(random), *apart, most, report, random);
     }
 
-    fn compare(&mut self, bytes: Vec<u8>, most: u64, report: &mut Report, random: &mut Random) {
+    /// Compares a job, which is listed if it is the first after so many.
+    fn compare(
+        &mut self,
+        bytes: Vec<u8>,
+        apart: usize,
+        most: u64,
+        report: &mut Report,
+        random: &mut Random,
+    ) {
         let end = report.cases().saturating_add(most);
+        let listed = self.jobs.is_multiple_of(apart);
+        self.jobs += 1;
         let worked = Worked::of(bytes);
         let length = lent(worked.room(), random);
         self.count(Call::Run, length, &worked, report, random);
         if report.cases() < end {
             self.count(Call::Translate, 0, &worked, report, random);
+        }
+        if listed && report.cases() < end {
+            self.count(Call::List, 0, &worked, report, random);
         }
         let Some(plan) = worked.plan() else {
             return;
@@ -160,6 +186,7 @@ impl Jobs {
             Call::Run => (self.run, worked.run(lent, space)),
             Call::Translate => (self.translate, worked.translate()),
             Call::Row(row) => (self.row, worked.row(row, lent, space)),
+            Call::List => (self.list, worked.list()),
         };
         report.count(place, &verdict, || {
             Asked::new(worked.bytes(), call, lent, shift)
@@ -199,6 +226,7 @@ pub fn archive(folder: &str, report: &mut Report) -> Result<(), String> {
         let room = worked.room();
         let mut same = jobs.count(Call::Run, room, &worked, report, &mut random);
         same &= jobs.count(Call::Translate, 0, &worked, report, &mut random);
+        same &= jobs.count(Call::List, 0, &worked, report, &mut random);
         if let Some(plan) = worked.plan() {
             for row in 0..plan.height {
                 let line = 4 * plan.width as usize;

@@ -13,6 +13,7 @@ mod question;
 mod replay;
 mod report;
 mod space;
+mod strip;
 mod words;
 
 use oracle::random::Random;

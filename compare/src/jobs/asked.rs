@@ -14,6 +14,7 @@ pub enum Call {
     Run,
     Translate,
     Row(u32),
+    List,
 }
 
 #[derive(Clone)]
@@ -69,6 +70,7 @@ impl Question for Asked {
             // In a smaller job there may be no plan.
             Call::Row(_) if worked.plan().is_none() => return None,
             Call::Row(row) => worked.row(row, self.lent, &mut space),
+            Call::List => worked.list(),
         };
         verdict.difference
     }
@@ -96,6 +98,7 @@ impl Question for Asked {
             Call::Run => "run".into(),
             Call::Translate => "translate".into(),
             Call::Row(row) => format!("row {row}"),
+            Call::List => "list".into(),
         };
         format!(
             "job {call}\nlent {} shift {}\n{}\n",
@@ -230,6 +233,7 @@ pub fn read(words: &mut Words) -> Result<Asked, String> {
         "run" => Call::Run,
         "translate" => Call::Translate,
         "row" => Call::Row(words.number()?),
+        "list" => Call::List,
         word => return Err(format!("'{word}' is no call on a job")),
     };
     Ok(Asked {
@@ -257,7 +261,7 @@ mod tests {
     #[test]
     fn what_is_written_is_read() {
         let mut random = Random::new(1);
-        for call in [Call::Run, Call::Translate, Call::Row(7)] {
+        for call in [Call::Run, Call::Translate, Call::Row(7), Call::List] {
             for _ in 0..50 {
                 let text = Asked::new(&CLASS.bytes(&mut random), call, 300, 5).text();
                 let mut words = Words::new(text.strip_prefix("job").unwrap());

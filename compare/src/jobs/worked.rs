@@ -4,10 +4,12 @@ use super::is_outside;
 use crate::library::jobs::{self, Ran};
 use crate::report::Verdict;
 use crate::space::Space;
+use crate::strip;
 use oracle::canvas::Record;
 use oracle::job::{draw, Job};
 use oracle::rules::job::{
-    ink, outcome, read, row_due, run_due, translate, Dropped, Outcome, Plan, MOST_COMMANDS,
+    ink, listing, outcome, read, refused_listing, row_due, run_due, translate, Dropped, Outcome,
+    Plan, BAD_JOB, MOST_COMMANDS, MOST_LISTED,
 };
 use oracle::rules::DONE;
 use thermal::lent::{self, RowAnswer};
@@ -156,6 +158,33 @@ impl Worked {
         };
         row_verdict(due, ours, dots, lent, space)
     }
+
+    /// What the program `strip` writes, against the rows of the original's canvas.
+    pub fn list(&self) -> Verdict {
+        let plan = match &self.sound {
+            _ if self.bytes.len() > MOST_LISTED => Err(BAD_JOB),
+            Err(number) => Err(*number),
+            Ok(sound) => match &sound.plan {
+                Err(number) => Err(*number),
+                Ok(plan) => Ok((plan, &sound.dots)),
+            },
+        };
+        let due = plan.err().unwrap_or(DONE);
+        let expected = match plan {
+            Err(number) => Ok(refused_listing(number)),
+            Ok((_, Err(why))) => Err(why.clone()),
+            Ok((plan, Ok(dots))) => Ok(listing(plan, dots)),
+        };
+        let difference = match (expected, strip::list(&self.bytes)) {
+            (Err(why), _) | (_, Err(why)) => Some(why),
+            (Ok(expected), Ok(ours)) => text_difference(&expected, &ours),
+        };
+        Verdict {
+            due,
+            outside: is_outside(due),
+            difference,
+        }
+    }
 }
 
 impl Sound {
@@ -227,6 +256,25 @@ fn text(ran: &Ran) -> String {
         "number {}, {:?}, {} dropped {dropped:?}",
         ran.number, ran.record, ran.dropped_count
     )
+}
+
+/// The first line in which a text is not as expected.
+fn text_difference(expected: &str, given: &[u8]) -> Option<String> {
+    let given = String::from_utf8_lossy(given);
+    let mut expected = expected.split_inclusive('\n');
+    let mut given = given.split_inclusive('\n');
+    let mut line = 0;
+    loop {
+        line += 1;
+        match (expected.next(), given.next()) {
+            (None, None) => return None,
+            (e, g) if e != g => {
+                let (e, g) = (e.unwrap_or_default(), g.unwrap_or_default());
+                return Some(format!("line {line}: {e:?} expected, {g:?} given"));
+            }
+            _ => {}
+        }
+    }
 }
 
 /// The first place in which two plans are not the same.

@@ -4,7 +4,7 @@ use super::{record, Command, Job};
 use crate::canvas::cases::{color, HUGE};
 use crate::canvas::Area;
 use crate::random::Random;
-use crate::rules::job::{outcome, read, records, Entry, Plan, MOST_COMMANDS};
+use crate::rules::job::{outcome, read, records, Entry, Plan, MOST_COMMANDS, MOST_LISTED};
 use crate::rules::LARGEST;
 
 /// Jobs of about one size.
@@ -166,6 +166,77 @@ impl Class {
         }
         area
     }
+}
+
+/// Jobs at the limits of a listing: the bytes, the commands, the sides, and what is refused.
+pub fn at_limits(random: &mut Random) -> Vec<Vec<u8>> {
+    let black = 0xff00_0000;
+    let area = |x, y, w, h| Area { x, y, w, h };
+    let mut image = |w: u32, h: u32, stretch| Command::Image {
+        area: area(0, 0, w, h),
+        stretch,
+        color: black,
+        multiply: true,
+        data: (0..w.div_ceil(8) * h).map(|_| random.u8()).collect(),
+    };
+    let rectangle = |x, w, h, color| Command::Rectangle {
+        area: area(x, 0, w, h),
+        color,
+        multiply: false,
+    };
+    let job = |width, commands| {
+        let paper_color = 0xffff_ffff;
+        let job = Job {
+            width,
+            paper_color,
+            commands,
+        };
+        job.bytes()
+    };
+    // 14 bytes of paper, 29 before the data, and 175 rows of 187.
+    let longest = job(1_496, vec![image(1_496, 175, (1, 1))]);
+    assert_eq!(longest.len(), MOST_LISTED);
+    let margin = Command::Margin(1);
+    let flip = Command::Flip(area(0, 0, 1, 1));
+    vec![
+        Vec::new(),
+        job(1, Vec::new()),
+        // Reds of 127, which are ink, and of 128, which are none.
+        job(
+            9,
+            vec![
+                rectangle(0, 4, 1, 0x8000_0000),
+                rectangle(4, 5, 1, 0x7f00_0000),
+            ],
+        ),
+        longest[..MOST_LISTED - 1].to_vec(),
+        // Longer ones: with a byte that is no record, as a job by itself, and by more than a pipe
+        // holds.
+        [&longest[..], &[0]].concat(),
+        [&longest[..], &margin.bytes()].concat(),
+        longest.repeat(9),
+        longest,
+        // The most commands, all kept and all dropped; one more; and as many as the bytes hold, or
+        // too many for them.
+        job(9, vec![margin.clone(); MOST_COMMANDS]),
+        job(9, vec![rectangle(9, 1, 1, black); MOST_COMMANDS]),
+        job(9, vec![margin.clone(); MOST_COMMANDS + 1]),
+        job(9, vec![margin.clone(); 3_275]),
+        job(9, vec![margin.clone(); 3_276]),
+        job(9, vec![margin.clone(), flip.clone()]),
+        job(9, vec![flip; MOST_COMMANDS + 1]),
+        // As wide and as tall as can be, and a tall one whose picture takes 37 MB.
+        job(LIMIT, vec![image(LIMIT, 15, (1, 1))]),
+        job(8, vec![image(8, LIMIT, (1, 1))]),
+        job(
+            576,
+            vec![
+                rectangle(570, 9, LIMIT - 1, 0x8000_0000),
+                image(64, 240, (9, 68)),
+                margin,
+            ],
+        ),
+    ]
 }
 
 /// The dots that a job draws, or none where it is refused. A margin and a flip take the canvas.

@@ -14,6 +14,9 @@ pub const NO_ROW: u8 = 15;
 
 pub const MOST_COMMANDS: usize = 64;
 
+/// The bytes of the longest job that is listed.
+pub const MOST_LISTED: usize = 32_768;
+
 pub const RECTANGLE: u8 = 2;
 pub const IMAGE: u8 = 3;
 
@@ -359,9 +362,24 @@ pub fn ink(row: &[u8]) -> u32 {
     row.chunks_exact(4).filter(|dot| dot[0] < 128).count() as u32
 }
 
+/// The listing of a plan whose rows have these dots.
+pub fn listing(plan: &Plan, dots: &[u8]) -> String {
+    let (width, height, dropped) = (plan.width, plan.height, plan.dropped_count);
+    let mut text = format!("paper {width} height {height} dropped {dropped}\n");
+    for (i, row) in dots.chunks_exact(4 * width as usize).enumerate() {
+        text += &format!("row {i} ink {}\n", ink(row));
+    }
+    text
+}
+
+/// The listing of a job that is refused.
+pub fn refused_listing(number: u8) -> String {
+    format!("refused {number}\n")
+}
+
 #[cfg(test)]
 mod tests {
-    use super::{ink, outcome, read, row_due, run_due, translate, Dropped, Job};
+    use super::{ink, listing, outcome, read, row_due, run_due, translate, Dropped, Job};
     use crate::canvas::Area;
     use crate::job::{draw, row, Command};
 
@@ -400,6 +418,10 @@ mod tests {
         assert_eq!(
             rows.iter().map(|row| ink(row)).collect::<Vec<_>>(),
             [0, 4, 4]
+        );
+        assert_eq!(
+            listing(&plan, &rows.concat()),
+            "paper 10 height 3 dropped 1\nrow 0 ink 0\nrow 1 ink 4\nrow 2 ink 4\n"
         );
         assert_eq!(row_due(&plan, 3, bytes.len(), 40), 15);
         assert_eq!(row_due(&plan, 2, bytes.len(), 39), 1);

@@ -1,0 +1,32 @@
+//! This project's program `strip`, run as a program.
+
+use std::io::{ErrorKind, Write};
+use std::process::{Command, Stdio};
+
+/// As seen from the folder compare/.
+const PROGRAM: &str = "../target/bin/strip";
+
+/// What it writes when this is its standard input, or why that is no listing.
+pub fn list(job: &[u8]) -> Result<Vec<u8>, String> {
+    let mut strip = Command::new(PROGRAM)
+        .stdin(Stdio::piped())
+        .stdout(Stdio::piped())
+        .stderr(Stdio::piped())
+        .spawn()
+        .map_err(|e| format!("strip cannot be started: {e}"))?;
+    // It writes nothing before it has read. Of too long an input it leaves the rest.
+    let mut input = strip.stdin.take().expect("it is a pipe");
+    match input.write_all(job) {
+        Err(e) if e.kind() != ErrorKind::BrokenPipe => {
+            return Err(format!("strip cannot be given its input: {e}"))
+        }
+        _ => drop(input),
+    }
+    let ended = strip.wait_with_output();
+    let ended = ended.map_err(|e| format!("strip does not end: {e}"))?;
+    if ended.status.success() && ended.stderr.is_empty() {
+        return Ok(ended.stdout);
+    }
+    let told = String::from_utf8_lossy(&ended.stderr);
+    Err(format!("strip ends with {}: {}", ended.status, told.trim()))
+}
