@@ -22,8 +22,8 @@ pub use damaged::read as read_plan;
 const CLASSES: [(usize, usize, Class); 4] = [
     // Small strips, of which there are the most.
     (
-        100_000,
-        250,
+        198_000,
+        500,
         Class {
             widths: &[
                 1, 2, 3, 5, 7, 8, 9, 12, 15, 16, 17, 24, 31, 32, 33, 48, 63, 64,

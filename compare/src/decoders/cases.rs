@@ -77,7 +77,7 @@ pub fn of(kind: Kind, random: &mut Random, mut each: impl FnMut(Case)) {
             }
         }
     }
-    for _ in 0..90_000 {
+    for _ in 0..165_000 {
         each(small(kind, random));
     }
     for i in 0..2_000 {
@@ -99,15 +99,15 @@ pub fn of(kind: Kind, random: &mut Random, mut each: impl FnMut(Case)) {
 
 /// Any case, as often as its like is among those of the quick setting.
 pub fn any(kind: Kind, random: &mut Random) -> Case {
-    match random.below(97_035) {
-        0..90_000 => small(kind, random),
-        90_000..92_000 => {
+    match random.below(172_035) {
+        0..165_000 => small(kind, random),
+        165_000..167_000 => {
             let tiny = random.below(2) == 0;
             stretched(kind, tiny, random)
         }
-        92_000..93_000 => any_data(thin(kind, random), random),
-        93_000..93_025 => damaged(kind, any_stretch(random), random),
-        93_025..97_025 => too_large(kind, random),
+        167_000..168_000 => any_data(thin(kind, random), random),
+        168_000..168_025 => damaged(kind, any_stretch(random), random),
+        168_025..172_025 => too_large(kind, random),
         _ => right_large(kind, random.one_of(&LARGE), random),
     }
 }
