@@ -3,12 +3,14 @@
 use std::io::{ErrorKind, Write};
 use std::process::{Command, Stdio};
 
-/// As seen from the folder compare/.
-const PROGRAM: &str = "../target/bin/strip";
+/// Starts it from the folder compare/. It has 8 MB for all that it maps, the C library among it, so
+/// that it cannot hold a picture.
+const START: &str = "ulimit -v 8192 && exec ../target/bin/strip";
 
 /// What it writes when this is its standard input, or why that is no listing.
 pub fn list(job: &[u8]) -> Result<Vec<u8>, String> {
-    let mut strip = Command::new(PROGRAM)
+    let mut strip = Command::new("sh")
+        .args(["-c", START])
         .stdin(Stdio::piped())
         .stdout(Stdio::piped())
         .stderr(Stdio::piped())
