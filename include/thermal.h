@@ -374,6 +374,13 @@ thermal_translated thermal_translate(const uint8_t *job, size_t job_length);
 thermal_row_answer thermal_row(thermal_plan plan, uint32_t row, const uint8_t *data,
                                size_t data_length, uint8_t *line, size_t length);
 
+/* Answers the number of `count` rows of a plan from row `first` on, without their ink: the plan is
+ * judged once for all of them.
+ * Writes the rows one after the other, 4*width*count bytes, from the start of `buf` when done, each as
+ * thermal_row gives it. `data` is only read. Numbers: 14, 15 unless all rows are there, 1. */
+uint8_t thermal_rows(thermal_plan plan, uint32_t first, uint32_t count, const uint8_t *data,
+                     size_t data_length, uint8_t *buf, size_t length);
+
 #ifdef __cplusplus
 }
 #endif

@@ -19,11 +19,13 @@
 //! assert_eq!(row.ink, 2);
 //! assert_eq!(row.dots, strip.canvas.dots()[40..]);
 //! assert_eq!(plan.row(2, &job), Err(Error::NoRow));
+//! assert_eq!(plan.rows(&job)?, strip.canvas.dots());
 //!
 //! assert_eq!(run(&job[..20]).err(), Some(Error::BadJob));
 //! # Ok::<(), Error>(())
 //! ```
 
+use crate::error::done;
 use crate::lent;
 use crate::room::lend;
 use crate::{Canvas, Error};
@@ -93,6 +95,16 @@ impl Plan {
         let mut dots = vec![0; 4 * width as usize];
         let ink = lent::row(self, row, data, &mut dots).done()?;
         Ok(Row { dots, ink })
+    }
+
+    /// Works out all rows at once, without their ink: the dots of the canvas that [`run`] draws.
+    pub fn rows(&self, data: &[u8]) -> Result<Vec<u8>, Error> {
+        // A plan that is refused is not given any room.
+        let mut buf = Vec::new();
+        if lent::rows(self, 0, self.height, data, &mut buf) == Error::NoRoom as u8 {
+            buf = vec![0; 4 * self.width as usize * self.height as usize];
+        }
+        done(lent::rows(self, 0, self.height, data, &mut buf), buf)
     }
 
     /// The entries that are used, in the order in which they are drawn.

@@ -155,16 +155,16 @@ pub fn draw_entry(
     image_rows(buf, wide, row, e, own, last - first, data, multiply);
 }
 
-// The entry's part of a row that stands in a line alone. Most entries of a plan have none.
-pub fn draw_on_row(line: &mut [u8], wide: usize, e: Entry, row: usize, data: &[u8])
-    requires { ⌜ Placed wide 0 row 1 (length (now line)) × (goodEntry wide limit (length (now «data»)) e ≡ true) ⌝ }
-    ensures { λ _. ⌜ now (line .exit) ≡ entryRows (now («data» .entry)) e wide 0 row 1 (now (line .entry)) ⌝ }
+// The same where the buffer begins with those rows. Most entries of a plan have no part in a row.
+pub fn draw_on_rows(buf: &mut [u8], wide: usize, e: Entry, from: usize, rows: usize, data: &[u8])
+    requires { ⌜ Placed wide 0 from rows (length (now buf)) × (goodEntry wide limit (length (now «data»)) e ≡ true) ⌝ }
+    ensures { λ _. ⌜ now (buf .exit) ≡ entryRows (now («data» .entry)) e wide 0 from rows (now (buf .entry)) ⌝ }
 {
-    if row < e.y as usize {
+    if from + rows <= e.y as usize {
         return;
     }
-    if row - e.y as usize >= e.h as usize {
+    if e.y as usize + e.h as usize <= from {
         return;
     }
-    draw_entry(line, wide, 0, e, row, 1, data);
+    draw_entry(buf, wide, 0, e, from, rows, data);
 }

@@ -13,7 +13,7 @@ use Rattle.entries.specs.declared.Entry.{Entry}
 use Rattle.plan.specs.Plan.{noEntry}
 use Rattle.plan.specs.declared.Plan.{Plan}
 use Rattle.rows.specs.declared.RowAnswer.{RowAnswer}
-use Rattle.rows.specs.Rows.{refusalOf, rowRefusal, entriesOn, rowOn, ink, rowWritten, rowGiven, listWritten, listGiven, firsts, used, planWritten, planGiven}
+use Rattle.rows.specs.Rows.{refusalOf, rowRefusal, entriesOn, rowOn, rowsOn, ink, rowWritten, rowGiven, listWritten, listGiven, firsts, used, planWritten, planGiven, planRowsRefusal, planRowsWritten}
 
 module _ (s : List ℕ) (W H : ℕ) (paper : RGBA) (count : ℕ) (es : List Entry) (row : ℕ) (l : List ℕ) {number : ℕ} (e : number ≡ rowRefusal W H (length s) count es row (length l)) where
   pub row-refused : (number ≡ done → ⊥) → _≡_ {A = RowAnswer} (record { number = number; ink = 0 }) (rowGiven s W H paper count es row l)
@@ -32,6 +32,17 @@ module _ (s : List ℕ) (W H : ℕ) (paper : RGBA) (count : ℕ) (es : List Entr
     pub row-answered : {k : ℕ} → k ≡ ink W m → _≡_ {A = RowAnswer} (record { number = done; ink = k }) (rowGiven s W H paper count es row l)
     unfolding rowGiven
     row-answered ek = rw (← e, z, ek, em)
+
+-- ---- some rows of a plan
+
+module _ (s : List ℕ) (p : Plan) (first n : ℕ) (l : List ℕ) {number : ℕ} (e : number ≡ planRowsRefusal p first n (length s) (length l)) where
+  pub rows-kept : (number ≡ done → ⊥) → l ≡ planRowsWritten s p first n l
+  unfolding planRowsWritten
+  rows-kept z = rw (← e, ne-eqb number done z)
+
+  pub rows-drawn : number ≡ done → {m : List ℕ} → m ≡ rowsOn s (p .width) (p .«paper_color») (used p) first n l → m ≡ planRowsWritten s p first n l
+  unfolding planRowsWritten
+  rows-drawn z em = em ∙ rw (← e, z)
 
 -- ---- a plan's row is that of a list of its first `count` entries
 

@@ -4,7 +4,7 @@ use mathlib.Core.Path.{_≡_, refl, ap, sym, _∙_}
 use mathlib.Core.Logic.{⊎-elim}
 use mathlib.Core.List.{List, [], _∷_, _++_}
 use mathlib.Core.Bool.{Bool, true, false, not, _&&_, and-true, true≢false}
-use native.Mathlib.Nat.{le-of-suc-le-suc, not-suc-le-zero}
+use native.Mathlib.Nat.{one-mul, le-of-suc-le-suc, not-suc-le-zero}
 use native.Mathlib.Numerals.{add-one}
 use native.Mathlib.Omega.{arith}
 use borrow.Author.Tests.{leb-true, leb-false, ltb-false, le-leb, lt-leb, lt-ltb, le-ltb}
@@ -18,7 +18,7 @@ use Rattle.entries.specs.Entries.{goodKind, goodEntry}
 use Rattle.job.specs.Commands.{soundMode}
 use Rattle.job.specs.Dropping.{mostCommands}
 use Rattle.plan.specs.Plan.{noEntry}
-use Rattle.rows.specs.Rows.{goodSizes, goodEntries, goodPlan, refusalOf, rowRefusal, firsts}
+use Rattle.rows.specs.Rows.{goodSizes, goodEntries, goodPlan, refusalOf, rowRefusal, rowsRefusal, firsts}
 
 both : (a b : Bool) → (a && b) ≡ true → (a ≡ true) × (b ≡ true)
 both true b e = (refl, e)
@@ -38,15 +38,29 @@ sizes-good W H count e =
     let d = both (leb 1 W) (leb W limit) (c .0) in
     record { some = leb-true _ _ (d .0); wide = leb-true _ _ (d .1); tall = leb-true _ _ (c .1); few = leb-true _ _ (b .1) }
 
-pub refusal-done : (good : Bool) (W H row room : ℕ) → refusalOf good W H row room ≡ done → (good ≡ true) × (row < H) × (W * 4 ≤ room)
-unfolding refusalOf
-refusal-done good W H row room = by good (leb H row) refl (ltb room (4 * W)) refl
+pub rows-done : (good : Bool) (W H first n room : ℕ) → rowsRefusal good W H first n room ≡ done → (good ≡ true) × (first + n ≤ H) × (n * W * 4 ≤ room)
+unfolding rowsRefusal
+rows-done good W H first n room = by good (ltb H (first + n)) refl (ltb room (4 * (n * W))) refl
   where
-    by : (a b : Bool) → leb H row ≡ b → (c : Bool) → ltb room (4 * W) ≡ c → (if not a then badPlan else if b then noRow else if c then noRoom else done) ≡ done → (a ≡ true) × (row < H) × (W * 4 ≤ room)
-    by true false q false r e = (refl, leb-false H row q, omega (arith, ltb-false room (4 * W) r))
+    by : (a b : Bool) → ltb H (first + n) ≡ b → (c : Bool) → ltb room (4 * (n * W)) ≡ c → (if not a then badPlan else if b then noRow else if c then noRoom else done) ≡ done
+        → (a ≡ true) × (first + n ≤ H) × (n * W * 4 ≤ room)
+    by true false q false r e = (refl, ltb-false H (first + n) q, omega (arith, ltb-false room (4 * (n * W)) r))
     by true false q true r e = absurd (omega arith)
     by true true q c r e = absurd (omega arith)
     by false b q c r e = absurd (omega arith)
+
+-- a row is refused as one row of some
+pub refusal-one : (good : Bool) (W H row room : ℕ) → rowsRefusal good W H row 1 room ≡ refusalOf good W H row room
+unfolding rowsRefusal refusalOf
+refusal-one good W H row room = rw (past, one-mul W) refl
+  where
+    past : ltb H (row + 1) ≡ leb H row
+    past = ⊎-elim (λ u. lt-ltb H (row + 1) u ∙ sym (le-leb H row (omega arith))) (λ u. le-ltb H (row + 1) u ∙ sym (lt-leb H row (omega arith))) (below H (row + 1))
+
+pub refusal-done : (good : Bool) (W H row room : ℕ) → refusalOf good W H row room ≡ done → (good ≡ true) × (row < H) × (W * 4 ≤ room)
+refusal-done good W H row room e =
+    let d = rows-done good W H row 1 room (refusal-one good W H row room ∙ e) in
+    (d .0, omega (arith, d .1), omega (arith, d .2, one-mul W))
 
 module _ (W H n : ℕ) where
   pub good-more : (es : List Entry) (e : Entry) → goodEntries W H n (es ++ (e ∷ [])) ≡ (goodEntries W H n es && goodEntry W H n e)
@@ -96,6 +110,15 @@ module _ (W H n : ℕ) where
     good-plan g =
         let z = g .sizes in
         rw (le-leb 1 W (z .some), le-leb W limit (z .wide), le-leb H limit (z .tall), le-leb count mostCommands (z .few)) (g .entries)
+
+    -- rows that are not refused
+    pub record Asked (first m size : ℕ) : Type 0 where
+      pub good : Good
+      pub within : first + m ≤ H
+      pub room : m * W * 4 ≤ size
+
+    pub rows-asked : (first m room : ℕ) → rowsRefusal (goodPlan W H n count es) W H first m room ≡ done → Asked first m room
+    rows-asked first m room e = let p = rows-done (goodPlan W H n count es) W H first m room e in record { good = plan-good (p .0); within = p .1; room = p .2 }
 
     -- a row that is not refused
     pub record Given (row size : ℕ) : Type 0 where

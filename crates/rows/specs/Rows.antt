@@ -1,5 +1,5 @@
 -- The row of a plan, and its ink: 01, "Row plans". s is the given bytes, es the entries, W and H the plan's width and height.
-use Prim.Native.Nat.{ℕ, zero, suc, _+_, _*_}
+use Prim.Native.Nat.{ℕ, zero, suc, _+_, _*_, _/_, _%_}
 use mathlib.Core.List.{List, [], _∷_, _++_}
 use mathlib.Core.Bool.{Bool, true, not, _&&_}
 use lib.ListN.{length, getD}
@@ -50,6 +50,10 @@ entriesOn s (e ∷ es) i j d = entriesOn s es i j (entryOn s e i j d)
 unfoldable pub rowOn : List ℕ → ℕ → RGBA → List Entry → ℕ → List ℕ → List ℕ
 rowOn s W paper es row l = change (within 0 W) (λ i _. entriesOn s es i row paper) l
 
+-- n rows from row `first` on, one after the other
+unfoldable pub rowsOn : List ℕ → ℕ → RGBA → List Entry → ℕ → ℕ → List ℕ → List ℕ
+rowsOn s W paper es first n l = change (within 0 (n * W)) (λ k _. entriesOn s es (k % W) (first + k / W) paper) l
+
 -- a dot has ink when its red is below 128
 unfoldable pub hasInk : RGBA → Bool
 hasInk d = ltb (d .r) 128
@@ -94,3 +98,20 @@ planWritten s p row l = rowWritten s (p .width) (p .height) (p .«paper_color»)
 
 abbrev pub planGiven : List ℕ → Plan → ℕ → List ℕ → RowAnswer
 planGiven s p row l = rowGiven s (p .width) (p .height) (p .«paper_color») (p .count) (used p) row l
+
+-- ---- n rows of a plan from row `first` on, at once: order 14, 15, 1 too. A refusal writes nothing
+
+unfoldable pub rowsRefusal : Bool → ℕ → ℕ → ℕ → ℕ → ℕ → ℕ
+rowsRefusal good W H first n room =
+    if not good then badPlan
+    else if ltb H (first + n) then noRow
+    else if ltb room (4 * (n * W)) then noRoom
+    else done
+
+abbrev pub planRowsRefusal : Plan → ℕ → ℕ → ℕ → ℕ → ℕ
+planRowsRefusal p first n bytes room =
+    rowsRefusal (goodPlan (p .width) (p .height) bytes (p .count) (used p)) (p .width) (p .height) first n room
+
+unfoldable pub planRowsWritten : List ℕ → Plan → ℕ → ℕ → List ℕ → List ℕ
+planRowsWritten s p first n l =
+    if eqb (planRowsRefusal p first n (length s) (length l)) done then rowsOn s (p .width) (p .«paper_color») (used p) first n l else l

@@ -1,14 +1,15 @@
-// The row of a plan, worked out alone: paper, with the plan's entries applied in order.
+// The rows of a plan: paper, with the plan's entries applied in order. A row is worked out alone, with
+// its ink, or some rows at once.
 ghost use mathlib.Core.Path.{_≡_};
 ghost use Prim.Native.Nat.{_*_, _≤_};
 ghost use lib.ListN.{length};
 ghost use Rattle.numbers.specs.Numbers.{limit, done};
 ghost use Rattle.colour.specs.Choice.{if_then_else_};
-ghost use Rattle.rows.specs.Rows.{goodSizes, goodEntries, goodPlan, refusalOf, rowOn, hasInk, ink, used, planRefusal, planWritten, planGiven};
+ghost use Rattle.rows.specs.Rows.{goodSizes, goodEntries, goodPlan, refusalOf, rowsRefusal, rowsOn, hasInk, ink, used, planWritten, planGiven, planRowsRefusal, planRowsWritten};
 use colour::RGBA;
 use dots::fill_run;
 use dots::get_dot;
-use entries::draw_on_row;
+use entries::draw_on_rows;
 use entries::good_entry;
 use job::kinds::MOST_COMMANDS;
 use numbers::BAD_PLAN;
@@ -66,19 +67,25 @@ fn good_plan(plan: Plan, n: usize) -> bool
 }
 
 // `good` says whether the plan rules are kept.
-pub fn refusal_of(good: bool, width: u32, height: u32, row: u32, room: usize) -> u8
-    ensures { λ r. ⌜ r ≡ refusalOf good width height row room ⌝ }
+fn rows_refusal(good: bool, width: u32, height: u32, first: u32, count: u32, room: usize) -> u8
+    ensures { λ r. ⌜ r ≡ rowsRefusal good width height first count room ⌝ }
 {
     if good {
-        if height <= row {
+        if (height as usize) < first as usize + count as usize {
             return NO_ROW;
         }
-        if room / 4 < width as usize {
+        if room / 4 < count as usize * width as usize {
             return NO_ROOM;
         }
         return DONE;
     }
     BAD_PLAN
+}
+
+pub fn refusal_of(good: bool, width: u32, height: u32, row: u32, room: usize) -> u8
+    ensures { λ r. ⌜ r ≡ refusalOf good width height row room ⌝ }
+{
+    rows_refusal(good, width, height, row, 1, room)
 }
 
 // One where a dot has ink.
@@ -104,17 +111,17 @@ pub fn ink_of(line: &[u8], n: usize) -> u32
     count
 }
 
-// The row of a plan that is known to be good.
-fn draw_row(plan: Plan, row: u32, data: &[u8], line: &mut [u8])
-    requires { ⌜ planRefusal plan row (length (now «data»)) (length (now line)) ≡ done ⌝ }
-    ensures { λ _. ⌜ now (line .exit) ≡ rowOn (now («data» .entry)) (plan .width) (plan .«paper_color») (used plan) row (now (line .entry)) ⌝ }
+// Rows of a plan that is known to be good.
+fn draw_rows(plan: Plan, first: u32, count: u32, data: &[u8], buf: &mut [u8])
+    requires { ⌜ planRowsRefusal plan first count (length (now «data»)) (length (now buf)) ≡ done ⌝ }
+    ensures { λ _. ⌜ now (buf .exit) ≡ rowsOn (now («data» .entry)) (plan .width) (plan .«paper_color») (used plan) first count (now (buf .entry)) ⌝ }
 {
     let wide = plan.width as usize;
-    fill_run(line, 0, wide, plan.paper_color);
+    fill_run(buf, 0, count as usize * wide, plan.paper_color);
     let mut i = 0;
     while i < plan.count {
         let e = plan.entries[i];
-        draw_on_row(line, wide, e, row as usize, data);
+        draw_on_rows(buf, wide, e, first as usize, count as usize, data);
         i += 1;
     }
 }
@@ -128,7 +135,21 @@ pub fn row(plan: Plan, row: u32, data: &[u8], line: &mut [u8]) -> RowAnswer
     if number != DONE {
         return RowAnswer { number, ink: 0 };
     }
-    draw_row(plan, row, data, line);
+    draw_rows(plan, row, 1, data, line);
     let ink = ink_of(line, plan.width as usize);
     RowAnswer { number: DONE, ink }
+}
+
+// The rows from `first` on, one after the other. The plan is judged once for all of them.
+pub fn rows(plan: Plan, first: u32, count: u32, data: &[u8], buf: &mut [u8]) -> u8
+    ensures { λ r. ⌜ r ≡ planRowsRefusal plan first count (length (now («data» .entry))) (length (now (buf .entry))) ⌝ }
+    ensures { λ _. ⌜ now (buf .exit) ≡ planRowsWritten (now («data» .entry)) plan first count (now (buf .entry)) ⌝ }
+{
+    let good = good_plan(plan, data.len());
+    let number = rows_refusal(good, plan.width, plan.height, first, count, buf.len());
+    if number != DONE {
+        return number;
+    }
+    draw_rows(plan, first, count, data, buf);
+    DONE
 }

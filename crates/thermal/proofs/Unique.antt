@@ -32,6 +32,7 @@ use Rattle.thermal.proofs.draw.thermal_draw_border.Reads as draw-border
 use Rattle.thermal.proofs.jobs.thermal_run.Reads as run
 use Rattle.thermal.proofs.jobs.thermal_translate.Reads as translate
 use Rattle.thermal.proofs.jobs.thermal_row.Reads as row
+use Rattle.thermal.proofs.jobs.thermal_rows.Reads as rows
 
 with-alpha-one : OneAnswer with-alpha.Post
 with-alpha-one k a x y e f p q = both p q
@@ -182,3 +183,9 @@ row-one k a x y e f p q = both (p .0) (q .0)
 
 row-content : OneContent row.Post (λ k e. now (e .1 .1 .1 .0))
 row-content k a x y e f p q = both (p .1) (q .1)
+
+rows-one : OneAnswer rows.Post
+rows-one k a x y e f p q = both (p .0) (q .0)
+
+rows-content : OneContent rows.Post (λ k e. now (e .1 .1 .1 .1 .0))
+rows-content k a x y e f p q = both (p .1) (q .1)

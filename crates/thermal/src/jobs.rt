@@ -3,7 +3,7 @@
 ghost use mathlib.Core.Path.{_≡_};
 ghost use lib.ListN.{length};
 ghost use Rattle.plan.specs.Plan.{translated};
-ghost use Rattle.rows.specs.Rows.{planWritten, planGiven};
+ghost use Rattle.rows.specs.Rows.{planWritten, planGiven, planRowsRefusal, planRowsWritten};
 ghost use Rattle.runs.specs.Run.{ran, runOn};
 use plan::Plan;
 use plan::Translated;
@@ -31,4 +31,18 @@ pub extern "C" fn thermal_row(plan: Plan, row: u32, data: &[u8], line: &mut [u8]
     ensures { λ _. ⌜ now (line .exit) ≡ planWritten (now («data» .entry)) plan row (now (line .entry)) ⌝ }
 {
     rows::row(plan, row, data, line)
+}
+
+#[no_mangle]
+pub extern "C" fn thermal_rows(
+    plan: Plan,
+    first: u32,
+    count: u32,
+    data: &[u8],
+    buf: &mut [u8],
+) -> u8
+    ensures { λ r. ⌜ r ≡ planRowsRefusal plan first count (length (now («data» .entry))) (length (now (buf .entry))) ⌝ }
+    ensures { λ _. ⌜ now (buf .exit) ≡ planRowsWritten (now («data» .entry)) plan first count (now (buf .entry)) ⌝ }
+{
+    rows::rows(plan, first, count, data, buf)
 }

@@ -24,6 +24,13 @@ pub fn row(plan: &Plan, row: u32, data: &[u8], line: &mut [u8]) -> RowAnswer {
     unsafe { raw::thermal_row(*plan, row, data.as_ptr(), data.len(), l, n) }
 }
 
+/// Writes out `count` rows of a plan from row `first` on, one after the other, and gives the number.
+/// `data` is the job that it is of.
+pub fn rows(plan: &Plan, first: u32, count: u32, data: &[u8], buf: &mut [u8]) -> u8 {
+    let (b, n) = (buf.as_mut_ptr(), buf.len());
+    unsafe { raw::thermal_rows(*plan, first, count, data.as_ptr(), data.len(), b, n) }
+}
+
 impl Ran {
     /// The dropped commands, in order.
     pub fn dropped(&self) -> &[Dropped] {

@@ -84,4 +84,13 @@ unsafe extern "C" {
         line: *mut u8,
         length: usize,
     ) -> RowAnswer;
+    pub fn thermal_rows(
+        plan: Plan,
+        first: u32,
+        count: u32,
+        data: *const u8,
+        data_length: usize,
+        buf: *mut u8,
+        length: usize,
+    ) -> u8;
 }

@@ -5,14 +5,15 @@ use native.Mathlib.Omega.{arith}
 use lib.ListN.{length}
 use denote.Ref.{now}
 use Rattle.rows.specs.Rows.{refusalOf, used, planRefusal}
-use Rattle.rows.proofs.Rules.{Given, row-given}
+use Rattle.rows.proofs.Rules.{refusal-one, Given, row-given}
+use Rattle.rows.proofs.Lines.{rows-one}
 use Rattle.rows.proofs.Answers.{row-refused, row-kept, row-drawn, row-answered}
 use borrow.Author.Needs.{needs}
 use Rattle.rows.proofs.row.Statement.{statement}
 use Rattle.rows.proofs.row.Tie as tie
 use Rattle.rows.proofs.row.Reads as reads
 use Rattle.rows.proofs.row.Lts as lts
-use Rattle.rows.proofs.draw_row.Reads as draw-row-reads
+use Rattle.rows.proofs.draw_rows.Reads as draw-rows-reads
 use Rattle.rows.proofs.good_plan.Reads as good-plan-reads
 use Rattle.rows.proofs.ink_of.Reads as ink-of-reads
 use Rattle.rows.proofs.refusal_of.Reads as refusal-of-reads
@@ -35,8 +36,8 @@ returns c =
     let e = decided (c .before) in
     (row-refused _ _ _ (a .plan .«paper_color») _ _ _ _ e (c .if1 .taken), row-kept _ _ _ (a .plan .«paper_color») _ _ _ _ e (c .if1 .taken))
 
-draw-row-requires : tie.Need-draw-row-requires
-draw-row-requires c κs = sym (decided (c .before .before)) ∙ c .before .if1 .left
+draw-rows-requires : tie.Need-draw-rows-requires
+draw-rows-requires c κs = refusal-one _ _ _ _ _ ∙ sym (decided (c .before .before)) ∙ c .before .if1 .left
 
 cast-ink-of : tie.Need-cast-ink-of
 cast-ink-of c = search needs
@@ -54,7 +55,7 @@ returns-2 c =
     let b = c .before .before .before .before .before .before .before in
     let a = b .before .before .before .before .before .args in
     let e = decided (b .before) in
-    let d = c .before .before .before .before .before .draw-row .ensures in
+    let d = c .before .before .before .before .before .draw-rows .ensures ∙ rows-one _ _ (a .plan .«paper_color») _ _ _ in
     (row-answered _ _ _ (a .plan .«paper_color») _ _ _ _ e (b .if1 .left) d (c .ink-of .ensures), row-drawn _ _ _ (a .plan .«paper_color») _ _ _ _ e (b .if1 .left) d)
 
 pub row-spec : {M : Type 1} → statement M
@@ -64,7 +65,7 @@ row-spec =
     good-plan-requires
     refusal-of-requires
     returns
-    draw-row-requires
+    draw-rows-requires
     cast-ink-of
     ink-of-requires
     same-length
