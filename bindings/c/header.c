@@ -224,6 +224,8 @@ static void jobs(void) {
     plan.entries[0].start = sizeof job - 1;
     expect(thermal_row(plan, 2, job, sizeof job, line, 40).number == THERMAL_BAD_PLAN,
            "thermal_row");
+    expect(thermal_rows(plan, 1, 2, job, sizeof job, buf, 80) == THERMAL_BAD_PLAN,
+           "thermal_rows");
 }
 
 int main(void) {

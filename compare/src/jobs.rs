@@ -91,6 +91,7 @@ pub struct Jobs {
     run: Place,
     translate: Place,
     row: Place,
+    rows: Place,
     damaged: Place,
     list: Place,
     spaces: Spaces,
@@ -104,6 +105,7 @@ impl Jobs {
             run: report.row("run of a job"),
             translate: report.row("translation of a job"),
             row: report.row("row of a plan"),
+            rows: report.row("rows of a plan at once"),
             damaged: report.row("row of a damaged plan"),
             list: report.row("strip"),
             spaces: Spaces::default(),
@@ -160,6 +162,14 @@ impl Jobs {
             };
             self.count(Call::Row(row), length, &worked, report, random);
         }
+        for (first, count) in bands(plan.height, random) {
+            if report.cases() == end {
+                return;
+            }
+            let need = 4 * plan.width as usize * count.min(plan.height) as usize;
+            let length = lent(need, random);
+            self.count(Call::Rows(first, count), length, &worked, report, random);
+        }
         for _ in 0..3 {
             if report.cases() == end {
                 return;
@@ -186,6 +196,7 @@ impl Jobs {
             Call::Run => (self.run, worked.run(lent, space)),
             Call::Translate => (self.translate, worked.translate()),
             Call::Row(row) => (self.row, worked.row(row, lent, space)),
+            Call::Rows(first, count) => (self.rows, worked.rows(first, count, lent, space)),
             Call::List => (self.list, worked.list()),
         };
         report.count(place, &verdict, || {
@@ -205,6 +216,19 @@ fn rows(height: u32, random: &mut Random) -> Vec<u32> {
     }
     rows.extend([height, random.one_of(&[height + 1, 16_384, u32::MAX])]);
     rows
+}
+
+/// All rows of a plan from the first on, and some from another on, up to the last or past it.
+fn bands(height: u32, random: &mut Random) -> [(u32, u32); 2] {
+    let first = random.below(height as usize + 2) as u32;
+    let left = height.saturating_sub(first);
+    let count = match random.below(8) {
+        0 => left + 1,
+        1 => random.one_of(&[0, 16_384, u32::MAX]),
+        2 => left,
+        _ => random.below(left as usize + 1) as u32,
+    };
+    [(0, height), (first, count)]
 }
 
 /// Compares each file of a folder as a job, and says what comes of it.
@@ -232,13 +256,15 @@ pub fn archive(folder: &str, report: &mut Report) -> Result<(), String> {
                 let line = 4 * plan.width as usize;
                 same &= jobs.count(Call::Row(row), line, &worked, report, &mut random);
             }
+            let all = Call::Rows(0, plan.height);
+            same &= jobs.count(all, room, &worked, report, &mut random);
         }
         let name = path.file_name().unwrap_or_default().display();
         let verdict = if same { "same" } else { "DIFFERS" };
         println!("{name}: {}, {verdict}", worked.told());
     }
     // What an archive may be without.
-    report.optional([jobs.row, jobs.damaged]);
+    report.optional([jobs.row, jobs.rows, jobs.damaged]);
     Ok(())
 }
 

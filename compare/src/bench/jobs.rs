@@ -1,5 +1,5 @@
 //! Strips as they are printed. The original draws a job's commands one after the other; this library
-//! runs the job, and works out every row of its plan alone.
+//! runs the job, and works out the rows of its plan, all at once and each alone.
 
 use super::{print, time, Row, ROUNDS};
 use oracle::canvas::Area;
@@ -36,8 +36,13 @@ fn strip(name: &str, job: &Job) {
     let bytes = job.bytes();
     let wide = 4 * job.width as usize;
     let mut buf = vec![0; wide * outcome.height as usize];
+    let mut again = buf.clone();
     let mut line = vec![0; wide];
-    let mut rows = [Row::new("run"), Row::new("translation and every row")];
+    let mut rows = [
+        Row::new("run"),
+        Row::new("translation and all rows at once"),
+        Row::new("translation and each row alone"),
+    ];
     let mut clear = Vec::new();
     for round in 0..ROUNDS {
         // Neither the canvas nor the time to free it counts.
@@ -50,6 +55,10 @@ fn strip(name: &str, job: &Job) {
         }));
         rows[1].ours.push(time(|| {
             let plan = lent::translate(black_box(&bytes)).plan;
+            number |= lent::rows(&plan, 0, plan.height, &bytes, &mut again);
+        }));
+        rows[2].ours.push(time(|| {
+            let plan = lent::translate(black_box(&bytes)).plan;
             for row in 0..plan.height {
                 black_box(lent::row(&plan, row, &bytes, &mut line));
             }
@@ -58,7 +67,10 @@ fn strip(name: &str, job: &Job) {
             let rust = rust.unwrap().get_height();
             let expected = draw(job, &[]).map(|mut canvas| canvas.dots());
             assert!(
-                number == 0 && rust == outcome.height && expected.as_ref() == Ok(&buf),
+                number == 0
+                    && rust == outcome.height
+                    && expected.as_ref() == Ok(&buf)
+                    && again == buf,
                 "{name}: the answers differ"
             );
         }

@@ -14,6 +14,8 @@ pub enum Call {
     Run,
     Translate,
     Row(u32),
+    /// So many rows from a row on.
+    Rows(u32, u32),
     List,
 }
 
@@ -55,6 +57,7 @@ impl Asked {
 fn room(job: &[u8], call: Call) -> usize {
     match (call, read_bytes(job)) {
         (Call::Row(_), Ok(job)) => 4 * job.width as usize,
+        (Call::Rows(_, count), Ok(job)) => 4 * job.width as usize * count as usize,
         _ => Worked::of(job.to_vec()).room(),
     }
 }
@@ -68,8 +71,9 @@ impl Question for Asked {
             Call::Run => worked.run(self.lent, &mut space),
             Call::Translate => worked.translate(),
             // In a smaller job there may be no plan.
-            Call::Row(_) if worked.plan().is_none() => return None,
+            Call::Row(_) | Call::Rows(..) if worked.plan().is_none() => return None,
             Call::Row(row) => worked.row(row, self.lent, &mut space),
+            Call::Rows(first, count) => worked.rows(first, count, self.lent, &mut space),
             Call::List => worked.list(),
         };
         verdict.difference
@@ -80,12 +84,18 @@ impl Question for Asked {
             Ok(job) => smaller_jobs(&job).into_iter().map(|j| j.bytes()).collect(),
             Err(_) => smaller_bytes(&self.job),
         };
-        let row = match self.call {
-            Call::Row(row) => row,
-            _ => 0,
+        let fewer: Vec<Call> = match self.call {
+            Call::Row(row) => below(row).map(Call::Row).collect(),
+            Call::Rows(first, count) => {
+                let earlier = below(first).map(|n| Call::Rows(n, count));
+                earlier
+                    .chain(below(count).map(|n| Call::Rows(first, n)))
+                    .collect()
+            }
+            _ => Vec::new(),
         };
         let rest = [
-            vary(self, below(row), |q, n| q.call = Call::Row(n)),
+            vary(self, fewer.into_iter(), |q, call| q.call = call),
             vary(self, below(self.lent), |q, n| q.lent = n),
             vary(self, below(self.shift), |q, n| q.shift = n),
         ];
@@ -98,6 +108,7 @@ impl Question for Asked {
             Call::Run => "run".into(),
             Call::Translate => "translate".into(),
             Call::Row(row) => format!("row {row}"),
+            Call::Rows(first, count) => format!("rows {first} {count}"),
             Call::List => "list".into(),
         };
         format!(
@@ -233,6 +244,7 @@ pub fn read(words: &mut Words) -> Result<Asked, String> {
         "run" => Call::Run,
         "translate" => Call::Translate,
         "row" => Call::Row(words.number()?),
+        "rows" => Call::Rows(words.number()?, words.number()?),
         "list" => Call::List,
         word => return Err(format!("'{word}' is no call on a job")),
     };
@@ -261,7 +273,8 @@ mod tests {
     #[test]
     fn what_is_written_is_read() {
         let mut random = Random::new(1);
-        for call in [Call::Run, Call::Translate, Call::Row(7), Call::List] {
+        let rows = Call::Rows(3, 9);
+        for call in [Call::Run, Call::Translate, Call::Row(7), rows, Call::List] {
             for _ in 0..50 {
                 let text = Asked::new(&CLASS.bytes(&mut random), call, 300, 5).text();
                 let mut words = Words::new(text.strip_prefix("job").unwrap());

@@ -8,8 +8,8 @@ use crate::strip;
 use oracle::canvas::Record;
 use oracle::job::{draw, Job};
 use oracle::rules::job::{
-    ink, listing, outcome, read, refused_listing, row_due, run_due, translate, Dropped, Outcome,
-    Plan, BAD_JOB, MOST_COMMANDS, MOST_LISTED,
+    ink, listing, outcome, read, refused_listing, row_due, rows_due, run_due, translate, Dropped,
+    Outcome, Plan, BAD_JOB, MOST_COMMANDS, MOST_LISTED,
 };
 use oracle::rules::DONE;
 use thermal::lent::{self, RowAnswer};
@@ -157,6 +157,31 @@ impl Worked {
             Err(why) => Err(why.clone()),
         };
         row_verdict(due, ours, dots, lent, space)
+    }
+
+    /// Some rows of the library's own plan at once, against those of the original's canvas.
+    pub fn rows(&self, first: u32, count: u32, lent: usize, space: &mut Space) -> Verdict {
+        let plan = &self.translated.plan;
+        let ours = lent::rows(plan, first, count, &self.bytes, space.lend(lent));
+        let Some((sound, plan)) = self.sound.as_ref().ok().zip(self.plan()) else {
+            return Verdict::done(Some("there is no plan".into()));
+        };
+        let due = rows_due(plan, first, count, self.bytes.len(), lent);
+        if let (Ok(dots), DONE) = (&sound.dots, due) {
+            let wide = 4 * plan.width as usize;
+            space.expect(&dots[first as usize * wide..][..count as usize * wide]);
+        }
+        let bytes = space.difference("the rows", lent);
+        let difference = match &sound.dots {
+            Err(why) => Some(why.clone()),
+            Ok(_) if ours != due => Some(format!("{due} expected, {ours} given")),
+            Ok(_) => bytes,
+        };
+        Verdict {
+            due,
+            outside: is_outside(due),
+            difference,
+        }
     }
 
     /// What the program `strip` writes, against the rows of the original's canvas.

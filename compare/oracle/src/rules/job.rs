@@ -328,6 +328,20 @@ pub fn row_due(plan: &Plan, row: u32, data: usize, lent: usize) -> u8 {
     DONE
 }
 
+/// The same for `count` rows from row `first` on, in a buffer of `lent` bytes.
+pub fn rows_due(plan: &Plan, first: u32, count: u32, data: usize, lent: usize) -> u8 {
+    if !is_good(plan, data) {
+        return BAD_PLAN;
+    }
+    if u64::from(first) + u64::from(count) > u64::from(plan.height) {
+        return NO_ROW;
+    }
+    if (lent as u128) < 4 * u128::from(plan.width) * u128::from(count) {
+        return NO_ROOM;
+    }
+    DONE
+}
+
 fn is_good(plan: &Plan, data: usize) -> bool {
     let limit = LARGEST as u32;
     (1..=limit).contains(&plan.width)
