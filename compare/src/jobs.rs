@@ -127,7 +127,7 @@ impl Jobs {
         self.compare(class.bytes(random), *apart, most, report, random);
     }
 
-    /// Compares a job, which is listed if it is the first after so many.
+    /// Compares a job, in at most so many cases. One of `apart` jobs is listed too, the first always.
     fn compare(
         &mut self,
         bytes: Vec<u8>,

@@ -17,7 +17,7 @@ use Rattle.areas.specs.Areas.{Fits, inArea, areaOn}
 use Rattle.areas.proofs.Laws.{area-none, area-by}
 use Rattle.job.specs.Commands.{rectangleKind, imageKind, soundMode}
 use Rattle.entries.specs.declared.Entry.{Entry}
-use Rattle.entries.specs.Entries.{goodImage, goodKind, goodEntry, multiplies, imagePixel, entryPixel, entryOn, entryRows, Placed}
+use Rattle.entries.specs.Entries.{goodImage, goodKind, goodEntry, multiplies, imagePixel, entryPixel, entryOn, ownRow, entryRows, Placed}
 use Rattle.entries.proofs.Images.{both-true}
 
 -- ---- what the rules come to
@@ -71,8 +71,8 @@ own-row y from top r first a b c d = omega arith
 
 module _ (s : List ℕ) (e : Entry) (W top from rows : ℕ) (l : List ℕ) {first last : ℕ} (ef : first ≡ max from (e .y)) (el : last ≡ min (from + rows) (e .y + e .h)) where
   -- a pixel of the entry drawn, by its own column and row from the first that stands in the buffer
-  abbrev pub part : ℕ → ℕ → RGBA → RGBA
-  part i j d = drawn (multiplies (e .mode)) (entryPixel s e i (first - e .y + j)) d
+  abbrev part : ℕ → ℕ → RGBA → RGBA
+  part = ownRow s e (first - e .y)
 
   pub entry-rows : 0 < W → {m : List ℕ} → m ≡ areaOn W (e .x) (top + (first - from)) (e .w) (last - first) part l → m ≡ entryRows s e W top from rows l
   unfolding entryRows areaOn inArea entryOn
@@ -111,21 +111,21 @@ module _ (s : List ℕ) (e : Entry) (W top from rows : ℕ) (l : List ℕ) {firs
       let z : last - first ≡ 0 = omega arith in
       entry-rows w (rw z (area-none W (e .x) (top + (first - from)) (e .w) 0 part l (inr refl)))
 
-  -- a rectangle, and an image
-  pub entry-rectangle : 0 < W → e .kind ≡ rectangleKind → {m : List ℕ}
-      → m ≡ areaOn W (e .x) (top + (first - from)) (e .w) (last - first) (λ _ _ d. drawn (multiplies (e .mode)) (e .color) d) l → m ≡ entryRows s e W top from rows l
-  unfolding entryPixel
-  entry-rectangle w k em = entry-rows w (em ∙ area-by _ _ _ _ _ _ l _ (λ i j u v. rw (eq-eqb (e .kind) rectangleKind k)))
-
-  pub entry-image : 0 < W → (e .kind ≡ rectangleKind → ⊥) → {m : List ℕ}
-      → m ≡ areaOn W (e .x) (top + (first - from)) (e .w) (last - first) (λ i j d. drawn (multiplies (e .mode)) (imagePixel s e i (first - e .y + j)) d) l
-      → m ≡ entryRows s e W top from rows l
-  unfolding entryPixel
-  entry-image w k em = entry-rows w (em ∙ area-by _ _ _ _ _ _ l _ (λ i j u v. rw (ne-eqb (e .kind) rectangleKind k)))
-
   pub part-fits : {n : ℕ} → Placed W top from rows n → e .x + e .w ≤ W → first < last → Fits W (e .x) (top + (first - from)) (e .w) (last - first) n
   part-fits p a h =
       record { some = p .some; across = a; down = omega (arith, p .room, mul-le-mul-right W (below p h)) }
     where
       below : {n : ℕ} → Placed W top from rows n → first < last → top + (first - from) + (last - first) ≤ top + rows
       below p h = omega arith
+
+-- ---- the entry's own rows of a rectangle, and of an image
+
+module _ (s : List ℕ) (e : Entry) (own W row rows : ℕ) (l : List ℕ) {m : List ℕ} where
+  pub own-rectangle : e .kind ≡ rectangleKind → m ≡ areaOn W (e .x) row (e .w) rows (λ _ _ d. drawn (multiplies (e .mode)) (e .color) d) l → m ≡ areaOn W (e .x) row (e .w) rows (ownRow s e own) l
+  unfolding entryPixel
+  own-rectangle k em = em ∙ area-by _ _ _ _ _ _ l _ (λ i j u v. rw (eq-eqb (e .kind) rectangleKind k))
+
+  pub own-image : (e .kind ≡ rectangleKind → ⊥) → m ≡ areaOn W (e .x) row (e .w) rows (λ i j d. drawn (multiplies (e .mode)) (imagePixel s e i (own + j)) d) l
+      → m ≡ areaOn W (e .x) row (e .w) rows (ownRow s e own) l
+  unfolding entryPixel
+  own-image k em = em ∙ area-by _ _ _ _ _ _ l _ (λ i j u v. rw (ne-eqb (e .kind) rectangleKind k))

@@ -5,7 +5,6 @@ use Rattle.entries.proofs.Entry.rectangle.Reads as rectangle
 use Rattle.entries.proofs.Entry.image.Reads as image
 use Rattle.entries.proofs.rules.good_entry.Reads as good-entry
 use Rattle.entries.proofs.draw_entry.Reads as draw-entry
-use Rattle.entries.proofs.draw_on_rows.Reads as draw-on-rows
 
 rectangle-one : OneAnswer rectangle.Post
 rectangle-one k a x y e f p q = both p q
@@ -18,6 +17,3 @@ good-entry-one k a x y e f p q = both p q
 
 draw-entry-one : OneContent draw-entry.Post (λ k e. now (e .0))
 draw-entry-one k a x y e f p q = both p q
-
-draw-on-rows-one : OneContent draw-on-rows.Post (λ k e. now (e .0))
-draw-on-rows-one k a x y e f p q = both p q

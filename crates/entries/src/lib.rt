@@ -9,7 +9,8 @@ ghost use Prim.Native.Nat.{_+_, _*_, _≤_, min, max};
 ghost use lib.ListN.{length};
 ghost use Rattle.numbers.specs.Numbers.{limit};
 ghost use Rattle.graphics.specs.Decoding.{factor};
-ghost use Rattle.entries.specs.Entries.{rectangleEntry, imageEntry, goodEntry, entryRows, Placed};
+ghost use Rattle.areas.specs.Areas.{Fits, areaOn};
+ghost use Rattle.entries.specs.Entries.{rectangleEntry, imageEntry, goodKind, goodEntry, ownRow, entryRows, Placed};
 use areas::draw_area;
 use colour::RGBA;
 use graphics::factor_of;
@@ -117,7 +118,29 @@ fn smaller(a: usize, b: usize) -> usize
     b
 }
 
-// The entry's part of the rows that stand in the buffer.
+// The entry's own rows from `own` on, at row `row` of a buffer.
+fn draw_part(
+    buf: &mut [u8],
+    wide: usize,
+    row: usize,
+    e: Entry,
+    own: usize,
+    rows: usize,
+    data: &[u8],
+)
+    requires { ⌜ (goodKind (length (now «data»)) e ≡ true) × (own + rows ≤ e .h) × (wide ≤ limit) × Fits wide (e .x) row (e .w) rows (length (now buf)) ⌝ }
+    ensures { λ _. ⌜ now (buf .exit) ≡ areaOn wide (e .x) row (e .w) rows (ownRow (now («data» .entry)) e own) (now (buf .entry)) ⌝ }
+{
+    let multiply = e.mode == Entry::MULTIPLY;
+    if e.kind == Entry::RECTANGLE {
+        let x = e.x as usize;
+        draw_area(buf, wide, x, row, e.w as usize, rows, e.color, multiply);
+        return;
+    }
+    image_rows(buf, wide, row, e, own, rows, data, multiply);
+}
+
+// The entry's part of the rows that stand in the buffer. Most entries of a plan have none in a row.
 pub fn draw_entry(
     buf: &mut [u8],
     wide: usize,
@@ -136,35 +159,6 @@ pub fn draw_entry(
         return;
     }
     let row = top + (first - from);
-    let multiply = e.mode == Entry::MULTIPLY;
-    if e.kind == Entry::RECTANGLE {
-        let x = e.x as usize;
-        draw_area(
-            buf,
-            wide,
-            x,
-            row,
-            e.w as usize,
-            last - first,
-            e.color,
-            multiply,
-        );
-        return;
-    }
     let own = first - e.y as usize;
-    image_rows(buf, wide, row, e, own, last - first, data, multiply);
-}
-
-// The same where the buffer begins with those rows. Most entries of a plan have no part in a row.
-pub fn draw_on_rows(buf: &mut [u8], wide: usize, e: Entry, from: usize, rows: usize, data: &[u8])
-    requires { ⌜ Placed wide 0 from rows (length (now buf)) × (goodEntry wide limit (length (now «data»)) e ≡ true) ⌝ }
-    ensures { λ _. ⌜ now (buf .exit) ≡ entryRows (now («data» .entry)) e wide 0 from rows (now (buf .entry)) ⌝ }
-{
-    if from + rows <= e.y as usize {
-        return;
-    }
-    if e.y as usize + e.h as usize <= from {
-        return;
-    }
-    draw_entry(buf, wide, 0, e, from, rows, data);
+    draw_part(buf, wide, row, e, own, last - first, data);
 }

@@ -1,5 +1,5 @@
 // The row of a list of entries that the caller lends, by the same functions for one entry as the row
-// of a plan: what is good is told by `good_entry`, and what is drawn by `draw_on_rows`.
+// of a plan: what is good is told by `good_entry`, and what is drawn by `draw_entry`.
 ghost use mathlib.Core.Path.{_≡_};
 ghost use mathlib.Core.Bool.{true, _&&_};
 ghost use mathlib.Core.List.{[]};
@@ -12,7 +12,7 @@ ghost use Rattle.lists.specs.Steps.{unlessRefused};
 use colour::RGBA;
 use dots::fill_run;
 use entries::Entry;
-use entries::draw_on_rows;
+use entries::draw_entry;
 use entries::good_entry;
 use numbers::DONE;
 use rows::RowAnswer;
@@ -85,7 +85,7 @@ fn draw_on(number: u8, line: &mut [u8], width: u32, e: Entry, row: u32, data: &[
     if number != DONE {
         return;
     }
-    draw_on_rows(line, width as usize, e, row as usize, 1, data);
+    draw_entry(line, width as usize, 0, e, row as usize, 1, data);
 }
 
 // The number and the ink. The buffer stays as it is.

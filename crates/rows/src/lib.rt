@@ -1,15 +1,17 @@
 // The rows of a plan: paper, with the plan's entries applied in order. A row is worked out alone, with
 // its ink, or some rows at once.
 ghost use mathlib.Core.Path.{_≡_};
-ghost use Prim.Native.Nat.{_*_, _≤_};
+ghost use mathlib.Core.Bool.{true};
+ghost use Prim.Native.Nat.{_+_, _*_, _≤_, min};
 ghost use lib.ListN.{length};
 ghost use Rattle.numbers.specs.Numbers.{limit, done};
 ghost use Rattle.colour.specs.Choice.{if_then_else_};
 ghost use Rattle.rows.specs.Rows.{goodSizes, goodEntries, goodPlan, refusalOf, rowsRefusal, rowsOn, hasInk, ink, used, planWritten, planGiven, planRowsRefusal, planRowsWritten};
+ghost use Rattle.rows.specs.Steps.{bandOn};
 use colour::RGBA;
 use dots::fill_run;
 use dots::get_dot;
-use entries::draw_on_rows;
+use entries::draw_entry;
 use entries::good_entry;
 use job::kinds::MOST_COMMANDS;
 use numbers::BAD_PLAN;
@@ -111,18 +113,55 @@ pub fn ink_of(line: &[u8], n: usize) -> u32
     count
 }
 
-// Rows of a plan that is known to be good.
-fn draw_rows(plan: Plan, first: u32, count: u32, data: &[u8], buf: &mut [u8])
-    requires { ⌜ planRowsRefusal plan first count (length (now «data»)) (length (now buf)) ≡ done ⌝ }
-    ensures { λ _. ⌜ now (buf .exit) ≡ rowsOn (now («data» .entry)) (plan .width) (plan .«paper_color») (used plan) first count (now (buf .entry)) ⌝ }
+// `count` rows of a plan that is known to be good, from row `top` of the buffer on.
+fn draw_rows(plan: Plan, first: u32, count: u32, data: &[u8], buf: &mut [u8], top: u32)
+    requires { ⌜ (goodPlan (plan .width) (plan .height) (length (now «data»)) (plan .count) (used plan) ≡ true) × (first + count ≤ plan .height) × ((top + count) * plan .width * 4 ≤ length (now buf)) ⌝ }
+    ensures { λ _. ⌜ now (buf .exit) ≡ bandOn (now («data» .entry)) (plan .width) (plan .«paper_color») (used plan) first top count (now (buf .entry)) ⌝ }
 {
     let wide = plan.width as usize;
-    fill_run(buf, 0, count as usize * wide, plan.paper_color);
+    fill_run(
+        buf,
+        top as usize * wide,
+        count as usize * wide,
+        plan.paper_color,
+    );
     let mut i = 0;
     while i < plan.count {
         let e = plan.entries[i];
-        draw_on_rows(buf, wide, e, first as usize, count as usize, data);
+        draw_entry(
+            buf,
+            wide,
+            top as usize,
+            e,
+            first as usize,
+            count as usize,
+            data,
+        );
         i += 1;
+    }
+}
+
+fn least(a: u32, b: u32) -> u32
+    ensures { λ r. ⌜ r ≡ min a b ⌝ }
+{
+    if a < b {
+        return a;
+    }
+    b
+}
+
+// So many rows are drawn before the next, so that a row is still near when it is drawn on.
+const BAND: u32 = 64;
+
+fn draw_bands(plan: Plan, first: u32, count: u32, data: &[u8], buf: &mut [u8])
+    requires { ⌜ planRowsRefusal plan first count (length (now «data»)) (length (now buf)) ≡ done ⌝ }
+    ensures { λ _. ⌜ now (buf .exit) ≡ rowsOn (now («data» .entry)) (plan .width) (plan .«paper_color») (used plan) first count (now (buf .entry)) ⌝ }
+{
+    let mut j = 0;
+    while j < count {
+        let n = least(BAND, count - j);
+        draw_rows(plan, first + j, n, data, buf, j);
+        j += n;
     }
 }
 
@@ -135,7 +174,7 @@ pub fn row(plan: Plan, row: u32, data: &[u8], line: &mut [u8]) -> RowAnswer
     if number != DONE {
         return RowAnswer { number, ink: 0 };
     }
-    draw_rows(plan, row, 1, data, line);
+    draw_rows(plan, row, 1, data, line, 0);
     let ink = ink_of(line, plan.width as usize);
     RowAnswer { number: DONE, ink }
 }
@@ -150,6 +189,6 @@ pub fn rows(plan: Plan, first: u32, count: u32, data: &[u8], buf: &mut [u8]) -> 
     if number != DONE {
         return number;
     }
-    draw_rows(plan, first, count, data, buf);
+    draw_bands(plan, first, count, data, buf);
     DONE
 }

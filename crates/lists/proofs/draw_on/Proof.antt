@@ -6,19 +6,19 @@ use Rattle.lists.proofs.draw_on.Statement.{statement}
 use Rattle.lists.proofs.draw_on.Tie as tie
 use Rattle.lists.proofs.draw_on.Reads as reads
 use Rattle.lists.proofs.draw_on.Lts as lts
-use Rattle.entries.proofs.draw_on_rows.Reads as draw-on-rows-reads
+use Rattle.entries.proofs.draw_entry.Reads as draw-entry-reads
 
 returns : tie.Need-returns
 returns c = refused _ _ (c .if1 .taken)
 
-draw-on-rows-requires : tie.Need-draw-on-rows-requires
-draw-on-rows-requires c κs = let e = c .before in e .before .before .before .pre (e .if1 .left)
+draw-entry-requires : tie.Need-draw-entry-requires
+draw-entry-requires c κs = let e = c .before in e .before .before .before .pre (e .if1 .left)
 
 same-length : tie.Need-same-length
 same-length c = search needs
 
 returns-2 : tie.Need-returns-2
-returns-2 c = let e = c .before .before .before .before in c .before .before .draw-on-rows .ensures ∙ taken _ _ (e .if1 .left)
+returns-2 c = let e = c .before .before .before .before in c .before .before .draw-entry .ensures ∙ taken _ _ (e .if1 .left)
 
 pub draw-on-spec : {M : Type 1} → statement M
-draw-on-spec = tie.close (tie.spec returns draw-on-rows-requires same-length returns-2)
+draw-on-spec = tie.close (tie.spec returns draw-entry-requires same-length returns-2)

@@ -5,8 +5,8 @@ use native.Mathlib.Omega.{arith}
 use lib.ListN.{length}
 use denote.Ref.{now}
 use Rattle.rows.specs.Rows.{refusalOf, used, planRefusal}
-use Rattle.rows.proofs.Rules.{refusal-one, Given, row-given}
-use Rattle.rows.proofs.Lines.{rows-one}
+use Rattle.rows.proofs.Rules.{Given, row-given, good-plan}
+use Rattle.rows.proofs.Lines.{band-one}
 use Rattle.rows.proofs.Answers.{row-refused, row-kept, row-drawn, row-answered}
 use borrow.Author.Needs.{needs}
 use Rattle.rows.proofs.row.Statement.{statement}
@@ -37,7 +37,7 @@ returns c =
     (row-refused _ _ _ (a .plan .«paper_color») _ _ _ _ e (c .if1 .taken), row-kept _ _ _ (a .plan .«paper_color») _ _ _ _ e (c .if1 .taken))
 
 draw-rows-requires : tie.Need-draw-rows-requires
-draw-rows-requires c κs = refusal-one _ _ _ _ _ ∙ sym (decided (c .before .before)) ∙ c .before .if1 .left
+draw-rows-requires c κs = let g = given (c .before) in (good-plan _ _ _ _ _ (g .good), omega (arith, g .below), omega (arith, g .room))
 
 cast-ink-of : tie.Need-cast-ink-of
 cast-ink-of c = search needs
@@ -55,7 +55,7 @@ returns-2 c =
     let b = c .before .before .before .before .before .before .before in
     let a = b .before .before .before .before .before .args in
     let e = decided (b .before) in
-    let d = c .before .before .before .before .before .draw-rows .ensures ∙ rows-one _ _ (a .plan .«paper_color») _ _ _ in
+    let d = c .before .before .before .before .before .draw-rows .ensures ∙ band-one _ _ (a .plan .«paper_color») _ _ _ in
     (row-answered _ _ _ (a .plan .«paper_color») _ _ _ _ e (b .if1 .left) d (c .ink-of .ensures), row-drawn _ _ _ (a .plan .«paper_color») _ _ _ _ e (b .if1 .left) d)
 
 pub row-spec : {M : Type 1} → statement M

@@ -10,7 +10,7 @@ use Rattle.rows.proofs.rows.Statement.{statement}
 use Rattle.rows.proofs.rows.Tie as tie
 use Rattle.rows.proofs.rows.Reads as reads
 use Rattle.rows.proofs.rows.Lts as lts
-use Rattle.rows.proofs.draw_rows.Reads as draw-rows-reads
+use Rattle.rows.proofs.draw_bands.Reads as draw-bands-reads
 use Rattle.rows.proofs.good_plan.Reads as good-plan-reads
 use Rattle.rows.proofs.rows_refusal.Reads as rows-refusal-reads
 
@@ -31,8 +31,8 @@ rows-refusal-requires c κs = search needs
 returns : tie.Need-returns
 returns c = (decided (c .before), rows-kept _ (c .before .before .before .before .before .args .plan) _ _ _ (decided (c .before)) (c .if1 .taken))
 
-draw-rows-requires : tie.Need-draw-rows-requires
-draw-rows-requires c κs = sym (decided (c .before .before)) ∙ c .before .if1 .left
+draw-bands-requires : tie.Need-draw-bands-requires
+draw-bands-requires c κs = sym (decided (c .before .before)) ∙ c .before .if1 .left
 
 same-length : tie.Need-same-length
 same-length c = search needs
@@ -40,7 +40,7 @@ same-length c = search needs
 returns-2 : tie.Need-returns-2
 returns-2 c =
     let b = c .before .before .before .before in
-    (sym (b .if1 .left) ∙ decided (b .before), rows-drawn _ (c .before .before .before .before .before .before .before .before .before .args .plan) _ _ _ (decided (b .before)) (b .if1 .left) (c .before .before .draw-rows .ensures))
+    (sym (b .if1 .left) ∙ decided (b .before), rows-drawn _ (c .before .before .before .before .before .before .before .before .before .args .plan) _ _ _ (decided (b .before)) (b .if1 .left) (c .before .before .draw-bands .ensures))
 
 pub rows-spec : {M : Type 1} → statement M
 rows-spec =
@@ -49,6 +49,6 @@ rows-spec =
     good-plan-requires
     rows-refusal-requires
     returns
-    draw-rows-requires
+    draw-bands-requires
     same-length
     returns-2)
