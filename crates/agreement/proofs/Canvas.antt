@@ -31,9 +31,9 @@ use Rattle.entries.specs.declared.Entry.{Entry}
 use Rattle.entries.specs.Entries.{multiplies, rectangleEntry, imageEntry, imagePixel, entryPixel}
 use Rattle.entries.proofs.Drawing.{entry-rows}
 use Rattle.thermal_image.specs.declared.ThermalImage.{ThermalImage}
-use Rattle.thermal_image.specs.Canvas.{canvas, sized, finished, answered, written, first, unsound, tallRefusal, roomRefusal, papered, marginRefusal, lowered, lowerOn}
-use Rattle.thermal_image.proofs.Codes.{first-some, first-none, first-done}
-use Rattle.thermal_image.proofs.Laws.{rows-some}
+use Rattle.refusals.specs.Refusals.{first, unsound, tallRefusal, roomRefusal, marginRefusal}
+use Rattle.thermal_image.specs.Canvas.{canvas, sized, finished, answered, written, papered, lowered, lowerOn}
+use Rattle.refusals.proofs.Codes.{first-some, first-none, first-done, rows-some}
 use Rattle.drawing.specs.Drawing.{tallAfter, sideRefusal, emptyRefusal, acrossRefusal, rowsRefusal, grownTo, placed, pixelsDrawn, putRefusal, putOn, rectRefusal, flipTall, flipRefusal, flipOn}
 use Rattle.drawing.proofs.Laws.{crop-min, crop-grown, tall-grown, rect-grown, rect-record, rect-placed, put-record, put-placed, flip-record}
 use Rattle.drawing.proofs.Equal.{pixel-in}
@@ -54,7 +54,7 @@ factor-some n = by (eqb n 0) refl
     by true e = omega arith
     by false e = omega (arith, eqb-false n 0 e)
 
-module _ (s : List ℕ) (W H : ℕ) (paper : RGBA) (l : List ℕ) (some : 1 ≤ W) (sound : unsound (canvas W H true paper) (length l) ≡ done) where
+module _ (s : List ℕ) (W H : ℕ) (paper : RGBA) (l : List ℕ) (some : 1 ≤ W) (sound : unsound W H (length l) ≡ done) where
   abbrev t : ThermalImage
   t = canvas W H true paper
 
@@ -106,7 +106,7 @@ module _ (s : List ℕ) (W H : ℕ) (paper : RGBA) (l : List ℕ) (some : 1 ≤ 
 
   -- ---- a margin
 
-  margin-number : (m : ℕ) → marginRefusal t m (length l) ≡ first (dropping.tallRefusal (H + m)) (roomRefusal W (H + m) (length l))
+  margin-number : (m : ℕ) → marginRefusal W H m (length l) ≡ first (dropping.tallRefusal (H + m)) (roomRefusal W (H + m) (length l))
   unfolding marginRefusal dropping.tallRefusal tallRefusal
   margin-number m = ap (λ (k : ℕ). first k (roomRefusal W (H + m) (length l))) (sym (first-none _ _ sound))
 

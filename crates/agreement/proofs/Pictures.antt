@@ -14,7 +14,7 @@ use Rattle.entries.specs.declared.Entry.{Entry}
 use Rattle.entries.specs.Entries.{rectangleEntry, imageEntry, entryOn}
 use Rattle.plan.specs.Plan.{lower, margins, entriesOf, isFlip, hasFlip}
 use Rattle.rows.specs.Rows.{entriesOn}
-use Rattle.thermal_image.proofs.Codes.{neither}
+use Rattle.refusals.proofs.Codes.{neither}
 use Rattle.runs.specs.Pictures.{Picture, withMargin, after, afterAll}
 use Rattle.runs.specs.Run.{runPicture}
 use Rattle.runs.proofs.Pictures.{rectangle-after, image-after}

@@ -16,7 +16,8 @@ use Rattle.plan.specs.Plan.{entriesOf, translateRefusal, planOf, translated}
 use Rattle.rows.specs.Rows.{ink, rowWritten, rowGiven, used, planRefusal, planWritten, planGiven}
 use Rattle.rows.proofs.Rules.{given-row, firsts-all}
 use Rattle.rows.proofs.Answers.{ink-dots, row-dot}
-use Rattle.thermal_image.specs.Canvas.{first, roomRefusal, written}
+use Rattle.refusals.specs.Refusals.{first, roomRefusal}
+use Rattle.thermal_image.specs.Canvas.{written}
 use Rattle.runs.specs.Run.{runRefusal, runPicture, runCanvas, ranWith, ran, runOn}
 use Rattle.runs.proofs.Pictures.{shown-dot}
 use Rattle.agreement.specs.Agreement.{Plannable, SameRow}

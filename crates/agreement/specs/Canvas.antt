@@ -19,7 +19,8 @@ use Rattle.job.specs.Dropping.{refusal, grown, jobDropped}
 use Rattle.entries.specs.Entries.{multiplies}
 use Rattle.thermal_image.specs.declared.ThermalImage.{ThermalImage}
 use Rattle.thermal_image.specs.declared.Answer.{Answer}
-use Rattle.thermal_image.specs.Canvas.{canvas, finished, first, unsound, roomRefusal, marginRefusal, lowered, lowerOn}
+use Rattle.refusals.specs.Refusals.{first, unsound, roomRefusal, marginRefusal}
+use Rattle.thermal_image.specs.Canvas.{canvas, finished, lowered, lowerOn}
 use Rattle.drawing.specs.Drawing.{putRefusal, put, putOn, rectRefusal, rect, rectOn, flipRefusal, flip, flipOn}
 use Rattle.runs.specs.Steps.{obeyedOn}
 use Rattle.runs.specs.Run.{runRefusal, runCanvas, runOn}
@@ -53,7 +54,7 @@ outcome s out t l (Image x y w h sx sy c mode start size) =
     let d = decoded Bits w h sx sy (length (dataOf s start size)) (length out) in
     imageOutcome (d .number) mode x y (d .w) (d .h) (decodedOn Bits (dataOf s start size) w h sx sy c out) t l
 outcome s out t l (Margin m) = record {
-  number = marginRefusal t m (length l);
+  number = marginRefusal (t .width) (t .height) m (length l);
   answer = lowered t m (length l);
   bytes = lowerOn t m l;
 }
@@ -89,7 +90,7 @@ pub record OnCanvas (s : List ℕ) (W H : ℕ) (paper : RGBA) (l : List ℕ) (c 
 -- for every command and every sound canvas with growth on
 abbrev pub CommandsOnCanvas : Type 0
 CommandsOnCanvas =
-    (s out l : List ℕ) (W H : ℕ) (paper : RGBA) (c : Command) → 1 ≤ W → unsound (canvas W H true paper) (length l) ≡ done → Inside s c → length out ≡ pixelBytes c
+    (s out l : List ℕ) (W H : ℕ) (paper : RGBA) (c : Command) → 1 ≤ W → unsound W H (length l) ≡ done → Inside s c → length out ≡ pixelBytes c
     → OnCanvas s W H paper l c (outcome s out (canvas W H true paper) l c)
 
 -- ---- a run

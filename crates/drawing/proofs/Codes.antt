@@ -8,8 +8,8 @@ use borrow.Author.Tests.{ltb-false, leb-true, leb-false, eqb-false}
 use Rattle.numbers.specs.Numbers.{limit, done}
 use Rattle.colour.specs.Choice.{if_then_else_}
 use Rattle.thermal_image.specs.declared.ThermalImage.{ThermalImage}
-use Rattle.thermal_image.specs.Canvas.{first, unsound, growRefusal}
-use Rattle.thermal_image.proofs.Codes.{first-none, first-done, passed, room-done, neither}
+use Rattle.refusals.specs.Refusals.{first, unsound, growRefusal}
+use Rattle.refusals.proofs.Codes.{first-none, first-done, passed, room-done, neither}
 use Rattle.drawing.specs.Drawing.{cropped, cropWide, cropTall, sideRefusal, offRefusal, emptyRefusal, acrossRefusal, rowsRefusal, placeRefusal, tallAfter, flips, imageTall, flipTall, flipRefusal, borderRefusal}
 use Rattle.drawing.specs.Steps.{Ready}
 
@@ -66,7 +66,7 @@ first-both : (a b : ℕ) → a ≡ done → b ≡ done → first a b ≡ done
 first-both a b e f = sym (first-none a b e) ∙ f
 
 -- a canvas with more rows that 8 and 1 let pass may grow to them
-grows-to : (t : ThermalImage) (rows n : ℕ) → t .height ≤ rows → unsound t n ≡ done → rowsRefusal (t .width) rows n ≡ done → growRefusal t rows n ≡ done
+grows-to : (t : ThermalImage) (rows n : ℕ) → t .height ≤ rows → unsound (t .width) (t .height) n ≡ done → rowsRefusal (t .width) rows n ≡ done → growRefusal (t .width) (t .height) rows n ≡ done
 unfolding growRefusal rowsRefusal
 grows-to t rows n h e f =
     let a = first-done _ _ f in
@@ -131,7 +131,7 @@ pub record Flips (t : ThermalImage) (x y w h rows n : ℕ) : Type 0 where
   pub across : x + w ≤ t .width
   pub more : t .height ≤ rows
   pub down : y + h ≤ rows
-  pub grows : growRefusal t rows n ≡ done
+  pub grows : growRefusal (t .width) (t .height) rows n ≡ done
 
 pub flip-done : (t : ThermalImage) (x y w h n : ℕ) {rows : ℕ} → rows ≡ flipTall t y h → flipRefusal t x y w h n ≡ done → Flips t x y w h rows n
 unfolding flipRefusal flipTall

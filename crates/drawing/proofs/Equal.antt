@@ -15,8 +15,9 @@ use Rattle.dots.specs.Dots.{dotAt, drawn, chan}
 use Rattle.dots.proofs.Laws.{length-tab, getD-tab, dot-of}
 use Rattle.areas.proofs.Laws.{area-by}
 use Rattle.thermal_image.specs.declared.ThermalImage.{ThermalImage}
-use Rattle.thermal_image.specs.Canvas.{written, first, unsound}
-use Rattle.thermal_image.proofs.Codes.{first-none}
+use Rattle.refusals.specs.Refusals.{first, unsound}
+use Rattle.thermal_image.specs.Canvas.{written}
+use Rattle.refusals.proofs.Codes.{first-none}
 use Rattle.drawing.specs.Drawing.{
   cropped,
   cropWide,
@@ -68,7 +69,7 @@ equal-short t x y w h = by (cropped t x y w) (cropTall t x y w h) (crop-tall t x
         rw (lt-ltb 0 (suc h') (omega arith), e, le-ltb (w * h) (h' * w + cropWide t x y w) (pixel-in w h _ h' (crop-wide t x y w) (omega arith)))
 
 pub equal-refusal : (t : ThermalImage) (x y w h rows n : ℕ)
-    → placeRefusal t x y w h (4 * (w * h)) rows n ≡ first (unsound t n) (first (sideRefusal w h) (first (offRefusal t x y) (rowsRefusal (t .width) rows n)))
+    → placeRefusal t x y w h (4 * (w * h)) rows n ≡ first (unsound (t .width) (t .height) n) (first (sideRefusal w h) (first (offRefusal t x y) (rowsRefusal (t .width) rows n)))
 unfolding placeRefusal
 equal-refusal t x y w h rows n =
     let q : 4 * (w * h) / 4 ≡ w * h = omega arith in

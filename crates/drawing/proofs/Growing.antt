@@ -11,19 +11,19 @@ use Rattle.areas.specs.Areas.{Fits, areaOn}
 use Rattle.areas.proofs.Laws.{area-fits}
 use Rattle.thermal_image.specs.declared.ThermalImage.{ThermalImage}
 use Rattle.thermal_image.specs.declared.Answer.{Answer}
-use Rattle.thermal_image.specs.Canvas.{sized, finished, answered, written, papered, growRefusal, grown, grownOn}
-use Rattle.thermal_image.proofs.Codes.{grow-done}
-use Rattle.thermal_image.proofs.Laws.{rows-some}
+use Rattle.refusals.specs.Refusals.{growRefusal}
+use Rattle.thermal_image.specs.Canvas.{sized, finished, answered, written, papered, grown, grownOn}
+use Rattle.refusals.proofs.Codes.{rows-some, grow-done}
 use Rattle.drawing.specs.Drawing.{cropWide, cropTall, grownTo, placed}
 use Rattle.drawing.specs.Steps.{Ready}
 use Rattle.drawing.proofs.Codes.{crop-across, crop-tall}
 
-module _ (t : ThermalImage) (rows : ℕ) (more : t .height ≤ rows) where
-  pub grows-within : (n : ℕ) → growRefusal t rows n ≡ done → rows ≤ limit
-  grows-within n e = omega (arith, grow-done t rows n e .tall)
+module _ (W H rows : ℕ) (more : H ≤ rows) where
+  pub grows-within : (n : ℕ) → growRefusal W H rows n ≡ done → rows ≤ limit
+  grows-within n e = omega (arith, grow-done W H rows n e .tall)
 
-  pub grows-room : (n : ℕ) → growRefusal t rows n ≡ done → t .width * rows * 4 ≤ n
-  grows-room n e = let top : max (t .height) rows ≡ rows = omega arith in omega (arith, rw top at (grow-done t rows n e .room))
+  pub grows-room : (n : ℕ) → growRefusal W H rows n ≡ done → W * rows * 4 ≤ n
+  grows-room n e = let top : max H rows ≡ rows = omega arith in omega (arith, rw top at (grow-done W H rows n e .room))
 
 pub length-grown : (t : ThermalImage) (rows : ℕ) (l : List ℕ) → length (grownTo t rows l) ≡ length l
 unfolding grownTo papered
@@ -35,7 +35,7 @@ pub record Grown (t : ThermalImage) (rows : ℕ) (l : List ℕ) (a : Answer) (m 
   pub fits : (x y w h : ℕ) → x + w ≤ t .width → y + h ≤ rows → Fits (t .width) x y w h (length m)
 
 -- where growing is not refused
-pub grew : (t : ThermalImage) (rows : ℕ) (l : List ℕ) → 0 < t .width → t .height ≤ rows → growRefusal t rows (length l) ≡ done
+pub grew : (t : ThermalImage) (rows : ℕ) (l : List ℕ) → 0 < t .width → t .height ≤ rows → growRefusal (t .width) (t .height) rows (length l) ≡ done
     → {a : Answer} {m : List ℕ} → a ≡ grown t rows (length l) → m ≡ grownOn t rows l → Grown t rows l a m
 unfolding grown grownOn answered written grownTo
 grew t rows l some more e {m = m} ea em =
@@ -44,7 +44,7 @@ grew t rows l some more e {m = m} ea em =
     record {
       answer = ea ∙ rw (e, top, rows-some (t .width) rows some);
       bytes = bytes;
-      fits = λ x y w h a d. area-fits rows some a d (rw (bytes, length-grown t rows l) (grows-room t rows more (length l) e));
+      fits = λ x y w h a d. area-fits rows some a d (rw (bytes, length-grown t rows l) (grows-room (t .width) (t .height) rows more (length l) e));
     }
 
 -- then w' by h', which cropping leaves, is drawn on

@@ -17,8 +17,9 @@ use Rattle.dots.proofs.Laws.{below}
 use Rattle.areas.specs.Areas.{inArea, areaOn, flippedOn}
 use Rattle.areas.proofs.Laws.{area-dot, in-area-true}
 use Rattle.thermal_image.specs.declared.ThermalImage.{ThermalImage}
-use Rattle.thermal_image.specs.Canvas.{sized, finished, answered, written, first, unsound, growRefusal}
-use Rattle.thermal_image.proofs.Codes.{first-none, neither}
+use Rattle.refusals.specs.Refusals.{first, unsound, growRefusal}
+use Rattle.thermal_image.specs.Canvas.{sized, finished, answered, written}
+use Rattle.refusals.proofs.Codes.{first-none, neither}
 use Rattle.thermal_image.proofs.Laws.{within-rows, grown-kept, grown-paper}
 use Rattle.drawing.specs.Drawing.{cropped, cropWide, cropTall, tallAfter, sideRefusal, offRefusal, rowsRefusal, drew, grownTo, placed, pixelsDrawn, putRefusal, put, putOn, rectRefusal, rect, rectOn, flipTall, flipRefusal, flip, flipOn}
 use Rattle.drawing.specs.Steps.{Ready}
@@ -47,7 +48,7 @@ module _ (t : ThermalImage) (grow : t .«auto_grow» ≡ true) where
   tall-grown x y w h = rw (crop-grown x y w h)
 
   -- what a rectangle on a sound canvas that grows is refused for: 2, 5, 8, 1
-  pub rect-grown : (x y w h n : ℕ) → unsound t n ≡ done
+  pub rect-grown : (x y w h n : ℕ) → unsound (t .width) (t .height) n ≡ done
       → rectRefusal t x y w h n ≡ first (sideRefusal w h) (first (if leb (t .width) x then offPaper else done) (rowsRefusal (t .width) (max (t .height) (y + h)) n))
   unfolding rectRefusal putRefusal offRefusal
   rect-grown x y w h n e =
@@ -74,7 +75,7 @@ module _ (t : ThermalImage) (x y w h : ℕ) where
 abbrev pub canvasDot : ThermalImage → List ℕ → ℕ → ℕ → RGBA
 canvasDot t l i j = if ltb j (t .height) then dotAt l (j * t .width + i) else t .«paper_color»
 
-module _ (t : ThermalImage) (rows : ℕ) (l : List ℕ) (more : t .height ≤ rows) (grows : growRefusal t rows (length l) ≡ done) (i j : ℕ) (a : i < t .width) (b : j < rows) where
+module _ (t : ThermalImage) (rows : ℕ) (l : List ℕ) (more : t .height ≤ rows) (grows : growRefusal (t .width) (t .height) rows (length l) ≡ done) (i j : ℕ) (a : i < t .width) (b : j < rows) where
   grown-dot : dotAt (grownTo t rows l) (j * t .width + i) ≡ canvasDot t l i j
   grown-dot =
       ap (λ (m : List ℕ). dotAt m (j * t .width + i)) (sym (grew t rows l (omega arith) more grows refl refl .bytes))
@@ -88,7 +89,7 @@ module _ (t : ThermalImage) (rows : ℕ) (l : List ℕ) (more : t .height ≤ ro
       → dotAt (areaOn (t .width) x y w h f (grownTo t rows l)) (j * t .width + i) ≡ (if inArea x y w h i j then f (i - x) (j - y) (canvasDot t l i j) else canvasDot t l i j)
   drawn-dot x y w h f =
       area-dot (t .width) x y w h f (grownTo t rows l) i j a
-      (rw (length-grown t rows l) (omega (arith, grows-room t rows more (length l) grows, within-rows t i j rows a b)))
+      (rw (length-grown t rows l) (omega (arith, grows-room (t .width) (t .height) rows more (length l) grows, within-rows t i j rows a b)))
       ∙ rw grown-dot
 
 -- a put's dot: drawn on in the area, as it was or new paper outside it

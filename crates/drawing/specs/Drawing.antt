@@ -11,7 +11,8 @@ use Rattle.dots.specs.Dots.{drawn, tab, chan}
 use Rattle.areas.specs.Areas.{areaOn, pixelDrawn, flippedOn, bordered}
 use Rattle.thermal_image.specs.declared.ThermalImage.{ThermalImage}
 use Rattle.thermal_image.specs.declared.Answer.{Answer}
-use Rattle.thermal_image.specs.Canvas.{sized, answered, written, first, unsound, tallRefusal, roomRefusal, papered}
+use Rattle.refusals.specs.Refusals.{first, unsound, tallRefusal, roomRefusal}
+use Rattle.thermal_image.specs.Canvas.{sized, answered, written, papered}
 
 -- ---- cropping
 
@@ -68,7 +69,7 @@ rowsRefusal W rows n = first (tallRefusal rows) (roomRefusal W rows n)
 -- the put's order, 9, 3, 2, 6, 5, 7, 8, 1, for a canvas that comes to have that many rows
 unfoldable pub placeRefusal : ThermalImage → ℕ → ℕ → ℕ → ℕ → ℕ → ℕ → ℕ → ℕ
 placeRefusal t x y w h bytes rows n =
-    first (unsound t n)
+    first (unsound (t .width) (t .height) n)
     (first (lengthRefusal bytes)
     (first (sideRefusal w h)
     (first (manyRefusal w h (bytes / 4))
@@ -129,7 +130,7 @@ flipTall t y h = max (t .height) (y + h)
 
 unfoldable pub flipRefusal : ThermalImage → ℕ → ℕ → ℕ → ℕ → ℕ → ℕ
 flipRefusal t x y w h n =
-    first (unsound t n)
+    first (unsound (t .width) (t .height) n)
     (first (emptyRefusal w h)
     (first (acrossRefusal t x w)
     (rowsRefusal (t .width) (flipTall t y h) n)))

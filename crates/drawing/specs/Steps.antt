@@ -3,7 +3,7 @@ use Prim.Native.Nat.{ℕ, _+_, _≤_, _<_}
 use mathlib.Core.Path.{_≡_}
 use Rattle.numbers.specs.Numbers.{limit, done}
 use Rattle.thermal_image.specs.declared.ThermalImage.{ThermalImage}
-use Rattle.thermal_image.specs.Canvas.{growRefusal}
+use Rattle.refusals.specs.Refusals.{growRefusal}
 use Rattle.drawing.specs.Drawing.{cropTall}
 
 -- what is known where a put is not refused
@@ -13,4 +13,4 @@ pub record Ready (t : ThermalImage) (x y w h rows n : ℕ) : Type 0 where
   pub tall : h ≤ limit
   pub more : t .height ≤ rows
   pub down : y + cropTall t x y w h ≤ rows
-  pub grows : growRefusal t rows n ≡ done
+  pub grows : growRefusal (t .width) (t .height) rows n ≡ done

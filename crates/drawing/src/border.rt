@@ -2,7 +2,7 @@
 ghost use mathlib.Core.Path.{_≡_};
 ghost use lib.ListN.{length};
 ghost use Rattle.drawing.specs.Drawing.{borderRefusal, borderOn};
-use super::refusals::border_refusal;
+use super::rules::border_refusal;
 use areas::border_area;
 use colour::RGBA;
 use numbers::DONE;

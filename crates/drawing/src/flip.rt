@@ -2,7 +2,7 @@
 ghost use mathlib.Core.Path.{_≡_};
 ghost use lib.ListN.{length};
 ghost use Rattle.drawing.specs.Drawing.{flip, flipOn};
-use super::refusals::flip_refusal;
+use super::rules::flip_refusal;
 use super::sizes::flip_tall;
 use areas::flip_area;
 use numbers::DONE;

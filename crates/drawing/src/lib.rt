@@ -4,7 +4,7 @@ mod border;
 mod flip;
 mod put;
 mod rect;
-mod refusals;
+mod rules;
 mod sizes;
 
 pub use border::draw_border;

@@ -4,7 +4,7 @@ ghost use lib.ListN.{length};
 ghost use Rattle.thermal_image.specs.Canvas.{sized, finished};
 ghost use Rattle.drawing.specs.Drawing.{placed, pixelsDrawn, put, putOn, imagePut, imageOn};
 ghost use Rattle.drawing.specs.Steps.{Ready};
-use super::refusals::place_refusal;
+use super::rules::place_refusal;
 use super::sizes::crop_pixels;
 use super::sizes::flips;
 use super::sizes::image_tall;

@@ -3,7 +3,7 @@ ghost use mathlib.Core.Path.{_≡_};
 ghost use mathlib.Core.Bool.{true};
 ghost use lib.ListN.{length};
 ghost use Rattle.drawing.specs.Drawing.{rect, rectOn};
-use super::refusals::rect_refusal;
+use super::rules::rect_refusal;
 use super::sizes::crop_pixels;
 use super::sizes::tall_after;
 use areas::draw_area;

@@ -24,7 +24,8 @@ use Rattle.job.proofs.Reasons.{rectangle-kept, stretched-kept}
 use Rattle.entries.specs.declared.Entry.{Entry}
 use Rattle.entries.specs.Entries.{rectangleEntry, imageEntry, goodEntry, entryRows, Placed}
 use Rattle.entries.proofs.Good.{rectangle-good, image-good}
-use Rattle.thermal_image.specs.Canvas.{canvas, first, roomRefusal, written}
+use Rattle.refusals.specs.Refusals.{first, roomRefusal}
+use Rattle.thermal_image.specs.Canvas.{canvas, written}
 use Rattle.runs.specs.declared.Ran.{Ran}
 use Rattle.runs.specs.declared.survey.Survey.{Survey}
 use Rattle.runs.specs.Pictures.{shown}

@@ -11,7 +11,8 @@ use Rattle.job.specs.declared.dropping.Dropped.{Dropped}
 use Rattle.job.specs.Commands.{paperWidth, paperColor}
 use Rattle.job.specs.Dropping.{jobRefusal, jobHeight, jobDropped, keptOf, noDropped, padded}
 use Rattle.thermal_image.specs.declared.ThermalImage.{ThermalImage}
-use Rattle.thermal_image.specs.Canvas.{canvas, first, roomRefusal, written}
+use Rattle.refusals.specs.Refusals.{first, roomRefusal}
+use Rattle.thermal_image.specs.Canvas.{canvas, written}
 use Rattle.runs.specs.declared.Ran.{Ran}
 use Rattle.runs.specs.Pictures.{Picture, afterAll, shown}
 

@@ -9,9 +9,9 @@ use colour::RGBA;
 use draw::draw_all;
 use job::Dropped;
 use numbers::DONE;
+use refusals::room_refusal;
 use survey::look_over;
 use thermal_image::ThermalImage;
-use thermal_image::room_refusal;
 
 // What a run answers: the number, the canvas, and the dropped commands, which are the first
 // `dropped_count`. All other places are zero.

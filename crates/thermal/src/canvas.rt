@@ -3,7 +3,8 @@
 ghost use mathlib.Core.Path.{_≡_};
 ghost use lib.ListN.{length};
 ghost use Rattle.moves.specs.declared.turned.Turn.{Turn};
-ghost use Rattle.thermal_image.specs.Canvas.{madeNew, rowsOf, grown, grownOn, lowered, lowerOn, widened, widenOn, setWidth, emptied, copied, copyOn, rgb, rgbOn, turned, turnOn};
+ghost use Rattle.refusals.specs.Refusals.{rowsOf};
+ghost use Rattle.thermal_image.specs.Canvas.{madeNew, grown, grownOn, lowered, lowerOn, widened, widenOn, setWidth, emptied, copied, copyOn, rgb, rgbOn, turned, turnOn};
 use thermal_image::Answer;
 use thermal_image::Copied;
 use thermal_image::Rgb;

@@ -7,7 +7,6 @@ use native.Mathlib.Nat.{mul-comm, mul-add, add-mul}
 use native.Mathlib.Omega.{arith}
 use lib.ListN.{length}
 use lib.Dec.{eqb}
-use borrow.Author.Tests.{ne-eqb}
 use Rattle.numbers.specs.Numbers.{done}
 use Rattle.colour.specs.Choice.{if_then_else_}
 use Rattle.dots.specs.Dots.{dotAt}
@@ -15,14 +14,10 @@ use Rattle.dots.proofs.Laws.{change-picked, change-kept, within-yes, within-low
 use Rattle.moves.proofs.Laws.{lowered-paper, lowered-dot}
 use Rattle.moves.proofs.Turns.{in-picture}
 use Rattle.thermal_image.specs.declared.ThermalImage.{ThermalImage}
-use Rattle.thermal_image.specs.Canvas.{rowsOf, answered, written, papered, growRefusal, grown, grownOn, marginRefusal, lowered, lowerOn}
-use Rattle.thermal_image.proofs.Codes.{grow-done, margin-done}
+use Rattle.thermal_image.specs.Canvas.{answered, written, papered, grown, grownOn, lowered, lowerOn}
+use Rattle.refusals.specs.Refusals.{growRefusal, marginRefusal}
+use Rattle.refusals.proofs.Codes.{rows-some, grow-done, margin-done}
 use Rattle.thermal_image.proofs.Answers.{more-rows}
-
--- a width has its rows
-pub rows-some : (W H : ℕ) → 0 < W → rowsOf W H ≡ H
-unfolding rowsOf
-rows-some W H h = rw (ne-eqb W 0 (λ e. omega arith))
 
 module _ (t : ThermalImage) where
   abbrev pub at : ℕ → ℕ → ℕ
@@ -34,40 +29,40 @@ module _ (t : ThermalImage) where
 
   -- ---- growing
 
-  pub grown-height : (height n : ℕ) → growRefusal t height n ≡ done → 0 < t .width → grown t height n .image .height ≡ max (t .height) height
+  pub grown-height : (height n : ℕ) → growRefusal (t .width) (t .height) height n ≡ done → 0 < t .width → grown t height n .image .height ≡ max (t .height) height
   unfolding grown answered
   grown-height height n e h = rw (e, rows-some (t .width) (max (t .height) height) h)
 
   -- a dot that was there stays, also where growing is refused
   pub grown-kept : (height x y : ℕ) (l : List ℕ) → x < t .width → y < t .height → dotAt (grownOn t height l) (at x y) ≡ dotAt l (at x y)
   unfolding grownOn written papered
-  grown-kept height x y l a b = go (eqb (growRefusal t height (length l)) done)
+  grown-kept height x y l a b = go (eqb (growRefusal (t .width) (t .height) height (length l)) done)
     where
       go : (d : Bool) → dotAt (if d then papered (t .width) (t .height) (max (t .height) height) (t .«paper_color») l else l) (at x y) ≡ dotAt l (at x y)
       go true = change-kept _ _ l (at x y) (within-low _ _ _ (within-rows x y (t .height) a b))
       go false = refl
 
   -- a new dot is paper
-  pub grown-paper : (height x y : ℕ) (l : List ℕ) → growRefusal t height (length l) ≡ done → x < t .width → t .height ≤ y → y < height
+  pub grown-paper : (height x y : ℕ) (l : List ℕ) → growRefusal (t .width) (t .height) height (length l) ≡ done → x < t .width → t .height ≤ y → y < height
       → dotAt (grownOn t height l) (at x y) ≡ t .«paper_color»
   unfolding grownOn written papered
   grown-paper height x y l e a b c =
-      let f = grow-done t height (length l) e in
+      let f = grow-done (t .width) (t .height) height (length l) e in
       let i = within-rows x y (max (t .height) height) a (omega arith) in
       rw e (change-picked _ _ l (at x y) (within-yes _ _ _ (omega (arith, more-rows (t .width) b, mul-comm (t .width) y)) i) (omega (arith, f .room)))
 
   -- ---- a margin
 
-  pub lowered-height : (rows n : ℕ) → marginRefusal t rows n ≡ done → 0 < t .width → lowered t rows n .image .height ≡ t .height + rows
+  pub lowered-height : (rows n : ℕ) → marginRefusal (t .width) (t .height) rows n ≡ done → 0 < t .width → lowered t rows n .image .height ≡ t .height + rows
   unfolding lowered answered
   lowered-height rows n e h = rw (e, rows-some (t .width) (t .height + rows) h)
 
-  module _ (rows x y : ℕ) (l : List ℕ) (e : marginRefusal t rows (length l) ≡ done) (a : x < t .width) where
+  module _ (rows x y : ℕ) (l : List ℕ) (e : marginRefusal (t .width) (t .height) rows (length l) ≡ done) (a : x < t .width) where
     -- a dot of the margin is paper
     pub margin-paper : y < rows → dotAt (lowerOn t rows l) (at x y) ≡ t .«paper_color»
     unfolding lowerOn written
     margin-paper b =
-        let f = margin-done t rows (length l) e in
+        let f = margin-done (t .width) (t .height) rows (length l) e in
         let i = within-rows x y rows a b in
         rw e (lowered-paper _ _ _ l (at x y) i (omega (arith, f .room, mul-add (t .width) (t .height) rows)))
 
@@ -75,7 +70,7 @@ module _ (t : ThermalImage) where
     pub margin-moved : y < t .height → dotAt (lowerOn t rows l) (at x (rows + y)) ≡ dotAt l (at x y)
     unfolding lowerOn written
     margin-moved b =
-        let f = margin-done t rows (length l) e in
+        let f = margin-done (t .width) (t .height) rows (length l) e in
         let i = within-rows x y (t .height) a b in
         let s = add-mul rows y (t .width) in
         let m = mul-comm rows (t .width) in

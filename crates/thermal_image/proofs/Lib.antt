@@ -1,4 +1,3 @@
-pub mod Codes
 pub mod Laws
 pub mod Answers
 mod Unique

@@ -1,9 +1,6 @@
--- The contract of each entry, and of each step that another crate calls, leaves one answer and one content of the buffer that it may write to. Assumes nothing.
+-- The contract of each entry leaves one answer and one content of the buffer that it may write to. Assumes nothing.
 use denote.Ref.{now}
 use Rattle.colour.proofs.OneAnswer.{OneAnswer, OneContent, both}
-use Rattle.thermal_image.proofs.refusals.first.Reads as first
-use Rattle.thermal_image.proofs.refusals.room_refusal.Reads as room-refusal
-use Rattle.thermal_image.proofs.refusals.unsound.Reads as unsound
 use Rattle.thermal_image.proofs.ThermalImage.new.Reads as new
 use Rattle.thermal_image.proofs.ThermalImage.get_height.Reads as get-height
 use Rattle.thermal_image.proofs.ThermalImage.expand_to_height.Reads as expand-to-height
@@ -17,15 +14,6 @@ use Rattle.thermal_image.proofs.ThermalImage.consume_rgb_u8.Reads as co
 use Rattle.thermal_image.proofs.ThermalImage.rotate_90.Reads as rotate-90
 use Rattle.thermal_image.proofs.ThermalImage.rotate_180.Reads as rotate-180
 use Rattle.thermal_image.proofs.ThermalImage.rotate_270.Reads as rotate-270
-
-first-one : OneAnswer first.Post
-first-one k a x y e f p q = both p q
-
-room-refusal-one : OneAnswer room-refusal.Post
-room-refusal-one k a x y e f p q = both p q
-
-unsound-one : OneAnswer unsound.Post
-unsound-one k a x y e f p q = both p q
 
 new-one : OneAnswer new.Post
 new-one k a x y e f p q = both p q

@@ -1,15 +1,11 @@
 // The canvas, as in the Rust's thermal_image.rs: a record by value, and its dots in a buffer that
 // the caller lends. Every operation that may change it takes the record and hands the next one back.
-mod refusals;
 mod sizes;
 
-// Inner steps of the refusals, for the crate that draws on a canvas.
-pub use refusals::first;
-pub use refusals::room_refusal;
-pub use refusals::unsound;
 ghost use mathlib.Core.Path.{_≡_};
 ghost use lib.ListN.{length};
-ghost use Rattle.thermal_image.specs.Canvas.{sized, finished, madeNew, rowsOf, grown, grownOn, lowered, lowerOn, widened, widenOn, setWidth, emptied, copied, copyOn, rgb, rgbOn, turned, turnOn};
+ghost use Rattle.thermal_image.specs.Canvas.{sized, finished, madeNew, grown, grownOn, lowered, lowerOn, widened, widenOn, setWidth, emptied, copied, copyOn, rgb, rgbOn, turned, turnOn};
+ghost use Rattle.refusals.specs.Refusals.{rowsOf};
 ghost use Rattle.moves.specs.declared.turned.Turn.{Turn};
 use colour::RGBA;
 use dots::fill_run;
@@ -21,14 +17,15 @@ use moves::turn;
 use moves::widen;
 use numbers::DONE;
 use refusals::grow_refusal;
+use refusals::larger;
 use refusals::margin_refusal;
 use refusals::out_refusal;
 use refusals::rgb_refusal;
+use refusals::rows_of;
+use refusals::unsound;
 use refusals::wide_refusal;
 use refusals::widen_refusal;
 use refusals::width_refusal;
-use sizes::larger;
-use sizes::rows_of;
 use sizes::turned_wide;
 
 // A canvas but for its dots, which are the first 4·width·height bytes of a buffer.
@@ -122,7 +119,7 @@ impl ThermalImage {
         ensures { λ r. ⌜ r ≡ grown self height (length (now (buf .entry))) ⌝ }
         ensures { λ _. ⌜ now (buf .exit) ≡ grownOn self height (now (buf .entry)) ⌝ }
     {
-        let number = grow_refusal(self, height, buf.len());
+        let number = grow_refusal(self.width, self.height, height, buf.len());
         if number != DONE {
             return Answer {
                 number,
@@ -140,7 +137,7 @@ impl ThermalImage {
         ensures { λ r. ⌜ r ≡ lowered self height (length (now (buf .entry))) ⌝ }
         ensures { λ _. ⌜ now (buf .exit) ≡ lowerOn self height (now (buf .entry)) ⌝ }
     {
-        let number = margin_refusal(self, height, buf.len());
+        let number = margin_refusal(self.width, self.height, height, buf.len());
         if number != DONE {
             return Answer {
                 number,
@@ -157,7 +154,7 @@ impl ThermalImage {
         ensures { λ r. ⌜ r ≡ widened self «new_width» (length (now (buf .entry))) ⌝ }
         ensures { λ _. ⌜ now (buf .exit) ≡ widenOn self «new_width» (now (buf .entry)) ⌝ }
     {
-        let number = widen_refusal(self, new_width, buf.len());
+        let number = widen_refusal(self.width, self.height, new_width, buf.len());
         if number != DONE {
             return Answer {
                 number,
@@ -182,7 +179,7 @@ impl ThermalImage {
     pub fn set_width(self, width: u32, buf: &[u8]) -> Answer
         ensures { λ r. ⌜ r ≡ setWidth self width (length (now (buf .entry))) ⌝ }
     {
-        let number = width_refusal(self, width, buf.len());
+        let number = width_refusal(self.width, self.height, width, buf.len());
         if number != DONE {
             return Answer {
                 number,
@@ -195,7 +192,7 @@ impl ThermalImage {
     pub fn empty(self, buf: &[u8]) -> Answer
         ensures { λ r. ⌜ r ≡ emptied self (length (now (buf .entry))) ⌝ }
     {
-        let number = unsound(self, buf.len());
+        let number = unsound(self.width, self.height, buf.len());
         if number != DONE {
             return Answer {
                 number,
@@ -215,7 +212,7 @@ impl ThermalImage {
         ensures { λ r. ⌜ r ≡ copied self (length (now (buf .entry))) (length (now (out .entry))) ⌝ }
         ensures { λ _. ⌜ now (out .exit) ≡ copyOn self (now (buf .entry)) (now (out .entry)) ⌝ }
     {
-        let number = out_refusal(self, buf.len(), out.len());
+        let number = out_refusal(self.width, self.height, buf.len(), out.len());
         if number != DONE {
             return Copied {
                 number,
@@ -236,7 +233,7 @@ impl ThermalImage {
         ensures { λ r. ⌜ r ≡ rgb self (length (now (buf .entry))) (length (now (out .entry))) ⌝ }
         ensures { λ _. ⌜ now (out .exit) ≡ rgbOn self (now (buf .entry)) (now (out .entry)) ⌝ }
     {
-        let number = rgb_refusal(self, buf.len(), out.len());
+        let number = rgb_refusal(self.width, self.height, buf.len(), out.len());
         if number != DONE {
             return Rgb {
                 number,
@@ -282,7 +279,7 @@ impl ThermalImage {
         ensures { λ r. ⌜ r ≡ turned by self (length (now (buf .entry))) (length (now (out .entry))) ⌝ }
         ensures { λ _. ⌜ now (out .exit) ≡ turnOn by self (now (buf .entry)) (now (out .entry)) ⌝ }
     {
-        let number = out_refusal(self, buf.len(), out.len());
+        let number = out_refusal(self.width, self.height, buf.len(), out.len());
         if number != DONE {
             return Answer {
                 number,

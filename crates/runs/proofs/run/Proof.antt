@@ -13,7 +13,7 @@ use Rattle.job.proofs.job_refusal.Reads as job-refusal-reads
 use Rattle.runs.proofs.draw.draw_all.Reads as draw-all-reads
 use Rattle.runs.proofs.refused.Reads as refused-reads
 use Rattle.runs.proofs.survey.look_over.Reads as look-over-reads
-use Rattle.thermal_image.proofs.room_refusal.Reads as room-refusal-reads
+use Rattle.refusals.proofs.room_refusal.Reads as room-refusal-reads
 
 job-refusal-requires : tie.Need-job-refusal-requires
 job-refusal-requires c κs = search needs

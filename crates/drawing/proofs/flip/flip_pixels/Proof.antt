@@ -25,7 +25,7 @@ flip-tall-requires : tie.Need-flip-tall-requires
 flip-tall-requires c κs = search needs
 
 cast-expand-to-height : tie.Need-cast-expand-to-height
-cast-expand-to-height c = let f = bounds c in omega (arith, grows-within _ _ (f .more) _ (f .grows))
+cast-expand-to-height c = let f = bounds c in omega (arith, grows-within _ _ _ (f .more) _ (f .grows))
 
 expand-to-height-requires : tie.Need-expand-to-height-requires
 expand-to-height-requires c κs = search needs

@@ -9,7 +9,7 @@ crop-pixels-requires : tie.Need-crop-pixels-requires
 crop-pixels-requires c κs = search needs
 
 cast-expand-to-height : tie.Need-cast-expand-to-height
-cast-expand-to-height c = let s = c .before .before .before in omega (arith, grows-within _ _ (s .pre .more) _ (s .pre .grows))
+cast-expand-to-height c = let s = c .before .before .before in omega (arith, grows-within _ _ _ (s .pre .more) _ (s .pre .grows))
 
 expand-to-height-requires : tie.Need-expand-to-height-requires
 expand-to-height-requires c κs = search needs

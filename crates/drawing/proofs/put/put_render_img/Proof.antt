@@ -54,7 +54,7 @@ flip-area-requires c κs =
     let d = f .before .before .before .before .before in
     let r = ready d in
     let e = sym (f .flips .ensures) ∙ v .if2 .taken in
-    area-fits (d .before .before .image-tall .result) (omega (arith, r .on)) (flips-across _ _ _ _ _ e) (rw (d .before .before .image-tall .ensures) (flips-down _ _ _ _ _ _ e)) (omega (arith, grows-room _ _ (r .more) _ (r .grows)))
+    area-fits (d .before .before .image-tall .result) (omega (arith, r .on)) (flips-across _ _ _ _ _ e) (rw (d .before .before .image-tall .ensures) (flips-down _ _ _ _ _ _ e)) (omega (arith, grows-room _ _ _ (r .more) _ (r .grows)))
 
 same-length : tie.Need-same-length
 same-length c = search needs

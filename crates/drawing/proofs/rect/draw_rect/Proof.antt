@@ -35,7 +35,7 @@ crop-pixels-requires : tie.Need-crop-pixels-requires
 crop-pixels-requires c κs = search needs
 
 cast-expand-to-height : tie.Need-cast-expand-to-height
-cast-expand-to-height c = let r = ready (c .before) in omega (arith, grows-within _ _ (r .more) _ (r .grows))
+cast-expand-to-height c = let r = ready (c .before) in omega (arith, grows-within _ _ _ (r .more) _ (r .grows))
 
 expand-to-height-requires : tie.Need-expand-to-height-requires
 expand-to-height-requires c κs = search needs

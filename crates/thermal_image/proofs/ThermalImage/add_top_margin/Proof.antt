@@ -6,14 +6,14 @@ use native.Mathlib.Omega.{arith}
 use lib.ListN.{length}
 use denote.Ref.{now}
 use Rattle.thermal_image.specs.Canvas.{lowered, lowerOn}
-use Rattle.thermal_image.proofs.Codes.{area, Fits, margin-done}
+use Rattle.refusals.proofs.Codes.{area, Fits, margin-done}
 use Rattle.thermal_image.proofs.Answers.{refused, did, kept, changed}
 use borrow.Author.Needs.{needs}
 use Rattle.thermal_image.proofs.ThermalImage.add_top_margin.Statement.{statement}
 use Rattle.thermal_image.proofs.ThermalImage.add_top_margin.Tie as tie
 
-fits : (c : tie.Else1) → let p = c .before .before .before .args in Fits (p .self) (p .self .width) (p .self .height + p .height) (length (now (p .buf)))
-fits c = margin-done _ _ _ (sym (c .before .margin-refusal .ensures) ∙ c .if1 .left)
+fits : (c : tie.Else1) → let p = c .before .before .before .args in Fits (p .self .width) (p .self .height) (p .self .width) (p .self .height + p .height) (length (now (p .buf)))
+fits c = margin-done _ _ _ _ (sym (c .before .margin-refusal .ensures) ∙ c .if1 .left)
 
 margin-refusal-requires : tie.Need-margin-refusal-requires
 margin-refusal-requires c κs = search needs

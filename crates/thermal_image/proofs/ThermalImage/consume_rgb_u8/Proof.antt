@@ -5,15 +5,15 @@ use native.Mathlib.Omega.{arith}
 use lib.ListN.{length}
 use denote.Ref.{now}
 use Rattle.thermal_image.specs.Canvas.{rgb, rgbOn}
-use Rattle.thermal_image.proofs.Codes.{area, Sound, rgb-done}
+use Rattle.refusals.proofs.Codes.{area, Sound, rgb-done}
 use Rattle.thermal_image.proofs.Answers.{kept, changed, rgb-refused, rgb-did}
 use borrow.Author.Needs.{needs}
 use Rattle.thermal_image.proofs.ThermalImage.consume_rgb_u8.Statement.{statement}
 use Rattle.thermal_image.proofs.ThermalImage.consume_rgb_u8.Tie as tie
 
 got : (c : tie.Else1) → let p = c .before .before .before .before .args in
-    Sound (p .self) (length (now (p .buf))) × (3 * (p .self .width * p .self .height) ≤ length (now (p .out)))
-got c = rgb-done _ _ _ (sym (c .before .rgb-refusal .ensures) ∙ c .if1 .left)
+    Sound (p .self .width) (p .self .height) (length (now (p .buf))) × (3 * (p .self .width * p .self .height) ≤ length (now (p .out)))
+got c = rgb-done _ _ _ _ (sym (c .before .rgb-refusal .ensures) ∙ c .if1 .left)
 
 rgb-refusal-requires : tie.Need-rgb-refusal-requires
 rgb-refusal-requires c κs = search needs

@@ -5,7 +5,7 @@ use native.Mathlib.Omega.{arith}
 use lib.ListN.{length}
 use denote.Ref.{now}
 use Rattle.thermal_image.specs.Canvas.{grown, grownOn}
-use Rattle.thermal_image.proofs.Codes.{area, Fits, grow-done}
+use Rattle.refusals.proofs.Codes.{area, Fits, grow-done}
 use Rattle.thermal_image.proofs.Answers.{refused, did, kept, changed, more-rows, papered-run}
 use borrow.Author.Needs.{needs}
 use Rattle.thermal_image.proofs.ThermalImage.expand_to_height.Statement.{statement}
@@ -13,10 +13,10 @@ use Rattle.thermal_image.proofs.ThermalImage.expand_to_height.Tie as ti
 
 -- no fewer rows than before, and room for them
 fits : (c : tie.After-larger) → let p = c .before .before .before .before .args in
-    (p .self .height ≤ c .larger .result) × Fits (p .self) (p .self .width) (c .larger .result) (length (now (p .buf)))
+    (p .self .height ≤ c .larger .result) × Fits (p .self .width) (p .self .height) (p .self .width) (c .larger .result) (length (now (p .buf)))
 fits c =
     let d = c .before in
-    (omega (arith, c .larger .ensures), rw (c .larger .ensures) (grow-done _ _ _ (sym (d .before .grow-refusal .ensures) ∙ d .if1 .left)))
+    (omega (arith, c .larger .ensures), rw (c .larger .ensures) (grow-done _ _ _ _ (sym (d .before .grow-refusal .ensures) ∙ d .if1 .left)))
 
 grow-refusal-requires : tie.Need-grow-refusal-requires
 grow-refusal-requires c κs = search needs

@@ -6,14 +6,14 @@ use lib.ListN.{length}
 use denote.Ref.{now}
 use borrow.Author.Tests.{le-leb, lt-leb}
 use Rattle.thermal_image.specs.Canvas.{finished, sized, widened, widenOn}
-use Rattle.thermal_image.proofs.Codes.{Fits, widen-done}
+use Rattle.refusals.proofs.Codes.{Fits, widen-done}
 use Rattle.thermal_image.proofs.Answers.{refused, did, kept, changed}
 use borrow.Author.Needs.{needs}
 use Rattle.thermal_image.proofs.ThermalImage.expand_to_width.Statement.{statement}
 use Rattle.thermal_image.proofs.ThermalImage.expand_to_width.Tie as tie
 
-fits : (c : tie.Else2) → let p = c .before .before .before .before .before .args in Fits (p .self) (p .new-width) (p .self .height) (length (now (p .buf)))
-fits c = let d = c .before .before in widen-done _ _ _ (sym (d .before .widen-refusal .ensures) ∙ d .if1 .left) (c .if2 .left)
+fits : (c : tie.Else2) → let p = c .before .before .before .before .before .args in Fits (p .self .width) (p .self .height) (p .new-width) (p .self .height) (length (now (p .buf)))
+fits c = let d = c .before .before in widen-done _ _ _ _ (sym (d .before .widen-refusal .ensures) ∙ d .if1 .left) (c .if2 .left)
 
 widen-refusal-requires : tie.Need-widen-refusal-requires
 widen-refusal-requires c κs = search needs

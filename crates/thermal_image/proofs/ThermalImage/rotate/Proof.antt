@@ -5,15 +5,15 @@ use native.Mathlib.Omega.{arith}
 use lib.ListN.{length}
 use denote.Ref.{now}
 use Rattle.thermal_image.specs.Canvas.{turned, turnOn}
-use Rattle.thermal_image.proofs.Codes.{Sound, out-done}
+use Rattle.refusals.proofs.Codes.{Sound, out-done}
 use Rattle.thermal_image.proofs.Answers.{refused, did, kept, changed}
 use borrow.Author.Needs.{needs}
 use Rattle.thermal_image.proofs.ThermalImage.rotate.Statement.{statement}
 use Rattle.thermal_image.proofs.ThermalImage.rotate.Tie as tie
 
 got : (c : tie.Else1) → let p = c .before .before .before .before .args in
-    Sound (p .self) (length (now (p .buf))) × (4 * (p .self .width * p .self .height) ≤ length (now (p .out)))
-got c = out-done _ _ _ (sym (c .before .out-refusal .ensures) ∙ c .if1 .left)
+    Sound (p .self .width) (p .self .height) (length (now (p .buf))) × (4 * (p .self .width * p .self .height) ≤ length (now (p .out)))
+got c = out-done _ _ _ _ (sym (c .before .out-refusal .ensures) ∙ c .if1 .left)
 
 out-refusal-requires : tie.Need-out-refusal-requires
 out-refusal-requires c κs = search needs

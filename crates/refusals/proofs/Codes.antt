@@ -1,0 +1,158 @@
+-- From tests to a refusal's number, and from number 0 to what was tested. Assumes nothing.
+use mathlib.Core.Path.{_≡_, refl}
+use mathlib.Core.Bool.{Bool, true, false, _&&_, _||_, true≢false}
+use Prim.Native.Nat.{ℕ, _+_, _*_, _/_, _≤_, _<_, max}
+use native.Mathlib.Nat.{mul-le-mul}
+use native.Mathlib.Omega.{arith}
+use lib.Dec.{ltb, eqb}
+use borrow.Author.Tests.{ltb-false, eqb-true, eqb-false, lt-ltb, le-ltb, lt-leb, eq-eqb, ne-eqb}
+use Rattle.numbers.specs.Numbers.{limit, done, badCanvas}
+use Rattle.colour.specs.Choice.{if_then_else_}
+use Rattle.refusals.specs.Refusals.{first, unsound, tallRefusal, wideRefusal, roomRefusal, rgbRoomRefusal, rowsOf, growRefusal, marginRefusal, widthRefusal, widenRefusal, outRefusal, rgbRefusal}
+
+-- a product of two sides
+pub area : {a b : ℕ} → a ≤ limit → b ≤ limit → a * b ≤ 268435456
+area ha hb = mul-le-mul ha hb
+
+-- ---- one number after another
+
+pub first-some : (a b : ℕ) → (a ≡ done → ⊥) → a ≡ first a b
+unfolding first
+first-some a b e = rw (ne-eqb a done e)
+
+pub first-none : (a b : ℕ) → a ≡ done → b ≡ first a b
+unfolding first
+first-none a b e = rw (eq-eqb a done e)
+
+pub first-last : (a : ℕ) → a ≡ first a done
+unfolding first
+first-last a = go (eqb a done) refl
+  where
+    go : (t : Bool) → eqb a done ≡ t → a ≡ (if t then done else a)
+    go true e = eqb-true a done e
+    go false e = refl
+
+pub first-done : (a b : ℕ) → first a b ≡ done → (a ≡ done) × (b ≡ done)
+unfolding first
+first-done a b = go (eqb a done) refl
+  where
+    go : (t : Bool) → eqb a done ≡ t → (if t then b else a) ≡ done → (a ≡ done) × (b ≡ done)
+    go true e r = (eqb-true a done e, r)
+    go false e r = absurd (eqb-false a done e r)
+
+-- a test that gave 0 failed
+pub passed : (t : Bool) {k : ℕ} → 0 < k → (if t then k else done) ≡ done → t ≡ false
+passed true h r = absurd (omega arith)
+passed false h r = refl
+
+-- ---- 8, 2, 1
+
+pub tall-done : (h : ℕ) → tallRefusal h ≡ done → h ≤ limit
+unfolding tallRefusal
+tall-done h e = ltb-false limit h (passed (ltb limit h) (omega arith) e)
+
+pub wide-done : (w : ℕ) → wideRefusal w ≡ done → w ≤ limit
+unfolding wideRefusal
+wide-done w e = ltb-false limit w (passed (ltb limit w) (omega arith) e)
+
+pub room-done : (w h n : ℕ) → roomRefusal w h n ≡ done → 4 * (w * h) ≤ n
+unfolding roomRefusal
+room-done w h n e = ltb-false n (4 * (w * h)) (passed (ltb n (4 * (w * h))) (omega arith) e)
+
+pub rgb-room-done : (w h n : ℕ) → rgbRoomRefusal w h n ≡ done → 3 * (w * h) ≤ n
+unfolding rgbRoomRefusal
+rgb-room-done w h n e = ltb-false n (3 * (w * h)) (passed (ltb n (3 * (w * h))) (omega arith) e)
+
+-- ---- 9
+
+-- a width has its rows
+pub rows-some : (W H : ℕ) → 0 < W → rowsOf W H ≡ H
+unfolding rowsOf
+rows-some W H h = rw (ne-eqb W 0 (λ e. omega arith))
+
+-- the height without a width
+pub flat-test : (w h : ℕ) → ltb (rowsOf w h) h ≡ (eqb w 0 && ltb 0 h)
+unfolding rowsOf
+flat-test w h = go (eqb w 0)
+  where
+    go : (t : Bool) → ltb (if t then 0 else h) h ≡ (t && ltb 0 h)
+    go true = refl
+    go false = le-ltb h h (omega arith)
+
+-- the last tests, by the rows that the code works out
+module _ (w h n : ℕ) (a : w ≤ limit) (b : h ≤ limit) {r : ℕ} (e : r ≡ rowsOf w h) where
+  pub unsound-flat : r < h → badCanvas ≡ unsound w h n
+  unfolding unsound
+  unsound-flat l = rw (le-ltb _ _ a, le-ltb _ _ b, ← flat-test w h, ← e, lt-ltb _ _ l)
+
+  pub unsound-short : h ≤ r → n / 4 < w * h → badCanvas ≡ unsound w h n
+  unfolding unsound
+  unsound-short l s =
+      rw (le-ltb _ _ a, le-ltb _ _ b, ← flat-test w h, ← e, le-ltb _ _ l, lt-ltb n (4 * (w * h)) (omega arith))
+
+  pub unsound-none : h ≤ r → w * h ≤ n / 4 → done ≡ unsound w h n
+  unfolding unsound
+  unsound-none l s =
+      rw (le-ltb _ _ a, le-ltb _ _ b, ← flat-test w h, ← e, le-ltb _ _ l, le-ltb n (4 * (w * h)) (omega arith))
+
+pub neither : (a b : Bool) → (a || b) ≡ false → (a ≡ false) × (b ≡ false)
+neither true b e = absurd (true≢false e)
+neither false b e = (refl, e)
+
+pub record Sound (W H n : ℕ) : Type 0 where
+  pub width : W ≤ limit
+  pub height : H ≤ limit
+  pub flat : W ≡ 0 → H ≡ 0
+  pub room : 4 * (W * H) ≤ n
+
+pub sound : (W H n : ℕ) → unsound W H n ≡ done → Sound W H n
+unfolding unsound
+sound W H n e =
+    let a = neither (ltb limit W || ltb limit H || (eqb W 0 && ltb 0 H)) (ltb n (4 * (W * H))) (passed _ (omega arith) e) in
+    let b = neither (ltb limit W || ltb limit H) (eqb W 0 && ltb 0 H) (a .0) in
+    let c = neither (ltb limit W) (ltb limit H) (b .0) in
+    record { width = ltb-false _ _ (c .0); height = ltb-false _ _ (c .1); flat = λ z. flat z (b .1); room = ltb-false _ _ (a .1) }
+  where
+    flat : W ≡ 0 → (eqb W 0 && ltb 0 H) ≡ false → H ≡ 0
+    flat z f = omega (arith, ltb-false 0 H (rw (eq-eqb W 0 z) at f))
+
+-- ---- a sound canvas whose buffer has room for w by h dots
+
+pub record Fits (W H w h n : ℕ) : Type 0 where
+  pub sound : Sound W H n
+  pub wide : w ≤ limit
+  pub tall : h ≤ limit
+  pub room : 4 * (w * h) ≤ n
+
+module _ (W H : ℕ) where
+  pub grow-done : (height n : ℕ) → growRefusal W H height n ≡ done → Fits W H W (max H height) n
+  unfolding growRefusal
+  grow-done height n e =
+      let a = first-done _ _ e in
+      let b = first-done _ _ (a .0) in
+      let s = sound W H n (b .0) in
+      record { sound = s; wide = s .width; tall = omega (arith, tall-done height (b .1), s .height); room = room-done _ _ n (a .1) }
+
+  pub margin-done : (rows n : ℕ) → marginRefusal W H rows n ≡ done → Fits W H W (H + rows) n
+  unfolding marginRefusal
+  margin-done rows n e =
+      let a = first-done _ _ e in
+      let b = first-done _ _ (a .0) in
+      let s = sound W H n (b .0) in
+      record { sound = s; wide = s .width; tall = tall-done _ (b .1); room = room-done _ _ n (a .1) }
+
+  pub widen-done : (new n : ℕ) → widenRefusal W H new n ≡ done → W < new → Fits W H new H n
+  unfolding widenRefusal widthRefusal
+  widen-done new n e h =
+      let a = first-done _ _ e in
+      let b = first-done _ _ (a .0) in
+      let s = sound W H n (b .0) in
+      record { sound = s; wide = wide-done new (b .1); tall = s .height; room = room-done new _ n (rw (lt-leb new W h) at (a .1)) }
+
+  pub out-done : (n room : ℕ) → outRefusal W H n room ≡ done → Sound W H n × (4 * (W * H) ≤ room)
+  unfolding outRefusal
+  out-done n room e = let a = first-done _ _ e in (sound W H n (a .0), room-done _ _ room (a .1))
+
+  pub rgb-done : (n room : ℕ) → rgbRefusal W H n room ≡ done → Sound W H n × (3 * (W * H) ≤ room)
+  unfolding rgbRefusal
+  rgb-done n room e = let a = first-done _ _ e in (sound W H n (a .0), rgb-room-done _ _ room (a .1))

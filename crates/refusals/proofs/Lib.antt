@@ -1,0 +1,2 @@
+pub mod Codes
+mod Unique

@@ -1,0 +1,50 @@
+-- The contract of each step leaves one answer. Assumes nothing.
+use Rattle.colour.proofs.OneAnswer.{OneAnswer, both}
+use Rattle.refusals.proofs.first.Reads as first
+use Rattle.refusals.proofs.rows_of.Reads as rows-of
+use Rattle.refusals.proofs.larger.Reads as larger
+use Rattle.refusals.proofs.wide_refusal.Reads as wide-refusal
+use Rattle.refusals.proofs.room_refusal.Reads as room-refusal
+use Rattle.refusals.proofs.unsound.Reads as unsound
+use Rattle.refusals.proofs.grow_refusal.Reads as grow-refusal
+use Rattle.refusals.proofs.margin_refusal.Reads as margin-refusal
+use Rattle.refusals.proofs.width_refusal.Reads as width-refusal
+use Rattle.refusals.proofs.widen_refusal.Reads as widen-refusal
+use Rattle.refusals.proofs.out_refusal.Reads as out-refusal
+use Rattle.refusals.proofs.rgb_refusal.Reads as rgb-refusal
+
+first-one : OneAnswer first.Post
+first-one k a x y e f p q = both p q
+
+rows-of-one : OneAnswer rows-of.Post
+rows-of-one k a x y e f p q = both p q
+
+larger-one : OneAnswer larger.Post
+larger-one k a x y e f p q = both p q
+
+wide-refusal-one : OneAnswer wide-refusal.Post
+wide-refusal-one k a x y e f p q = both p q
+
+room-refusal-one : OneAnswer room-refusal.Post
+room-refusal-one k a x y e f p q = both p q
+
+unsound-one : OneAnswer unsound.Post
+unsound-one k a x y e f p q = both p q
+
+grow-refusal-one : OneAnswer grow-refusal.Post
+grow-refusal-one k a x y e f p q = both p q
+
+margin-refusal-one : OneAnswer margin-refusal.Post
+margin-refusal-one k a x y e f p q = both p q
+
+width-refusal-one : OneAnswer width-refusal.Post
+width-refusal-one k a x y e f p q = both p q
+
+widen-refusal-one : OneAnswer widen-refusal.Post
+widen-refusal-one k a x y e f p q = both p q
+
+out-refusal-one : OneAnswer out-refusal.Post
+out-refusal-one k a x y e f p q = both p q
+
+rgb-refusal-one : OneAnswer rgb-refusal.Post
+rgb-refusal-one k a x y e f p q = both p q

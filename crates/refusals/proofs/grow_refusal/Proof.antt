@@ -1,0 +1,44 @@
+-- `refusals::grow_refusal` meets its contract. Assumes nothing.
+use mathlib.Core.Path.{refl, _∙_}
+use Rattle.refusals.specs.Refusals.{growRefusal}
+use borrow.Author.Needs.{needs}
+use Rattle.refusals.proofs.grow_refusal.Statement.{statement}
+use Rattle.refusals.proofs.grow_refusal.Tie as tie
+
+unsound-requires : tie.Need-unsound-requires
+unsound-requires c κs = search needs
+
+tall-refusal-requires : tie.Need-tall-refusal-requires
+tall-refusal-requires c κs = search needs
+
+first-requires : tie.Need-first-requires
+first-requires c κs = search needs
+
+larger-requires : tie.Need-larger-requires
+larger-requires c κs = search needs
+
+room-refusal-requires : tie.Need-room-refusal-requires
+room-refusal-requires c κs = search needs
+
+first-requires-2 : tie.Need-first-requires-2
+first-requires-2 c κs = search needs
+
+returns : tie.Need-returns
+unfolding growRefusal
+returns c =
+    let l = c .before .before in
+    let f = l .before in
+    let h = f .before in
+    c .first2 .ensures ∙ rw (c .before .room-refusal .ensures, l .larger .ensures, f .first .ensures, h .tall-refusal .ensures, h .before .unsound .ensures)
+
+pub grow-refusal-spec : {M : Type 1} → statement M
+grow-refusal-spec =
+    tie.close
+    (tie.spec
+    unsound-requires
+    tall-refusal-requires
+    first-requires
+    larger-requires
+    room-refusal-requires
+    first-requires-2
+    returns)

@@ -1,0 +1,23 @@
+-- `refusals::out_refusal` meets its contract. Assumes nothing.
+use mathlib.Core.Path.{refl, _∙_}
+use Rattle.refusals.specs.Refusals.{outRefusal}
+use borrow.Author.Needs.{needs}
+use Rattle.refusals.proofs.out_refusal.Statement.{statement}
+use Rattle.refusals.proofs.out_refusal.Tie as tie
+
+unsound-requires : tie.Need-unsound-requires
+unsound-requires c κs = search needs
+
+room-refusal-requires : tie.Need-room-refusal-requires
+room-refusal-requires c κs = search needs
+
+first-requires : tie.Need-first-requires
+first-requires c κs = search needs
+
+returns : tie.Need-returns
+unfolding outRefusal
+returns c = c .first .ensures ∙ rw (c .before .room-refusal .ensures, c .before .before .unsound .ensures)
+
+pub out-refusal-spec : {M : Type 1} → statement M
+out-refusal-spec =
+    tie.close (tie.spec unsound-requires room-refusal-requires first-requires returns)
