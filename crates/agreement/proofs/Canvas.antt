@@ -34,9 +34,11 @@ use Rattle.thermal_image.specs.declared.ThermalImage.{ThermalImage}
 use Rattle.refusals.specs.Refusals.{first, unsound, tallRefusal, roomRefusal, marginRefusal}
 use Rattle.thermal_image.specs.Canvas.{canvas, sized, finished, answered, written, papered, lowered, lowerOn}
 use Rattle.refusals.proofs.Codes.{first-some, first-none, first-done, rows-some}
-use Rattle.drawing.specs.Drawing.{tallAfter, sideRefusal, emptyRefusal, acrossRefusal, rowsRefusal, grownTo, placed, pixelsDrawn, putRefusal, putOn, rectRefusal, flipTall, flipRefusal, flipOn}
-use Rattle.drawing.proofs.Laws.{crop-min, crop-grown, tall-grown, rect-grown, rect-record, rect-placed, put-record, put-placed, flip-record}
-use Rattle.drawing.proofs.Equal.{pixel-in}
+use Rattle.places.specs.Places.{tallAfter, sideRefusal, emptyRefusal, acrossRefusal, rowsRefusal, putRefusal, rectRefusal, flipTall, flipRefusal}
+use Rattle.drawing.specs.Drawing.{grownTo, placed, pixelsDrawn, putOn, flipOn}
+use Rattle.places.proofs.Codes.{crop-min, crop-grown, tall-grown}
+use Rattle.places.proofs.Equal.{pixel-in, rect-grown}
+use Rattle.drawing.proofs.Laws.{rect-record, rect-placed, put-record, put-placed, flip-record}
 use Rattle.runs.specs.Steps as steps
 use Rattle.agreement.specs.Canvas.{dataOf, imageOutcome, outcome, Inside, pixelBytes, OnCanvas, CommandsOnCanvas}
 

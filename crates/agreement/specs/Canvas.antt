@@ -21,7 +21,8 @@ use Rattle.thermal_image.specs.declared.ThermalImage.{ThermalImage}
 use Rattle.thermal_image.specs.declared.Answer.{Answer}
 use Rattle.refusals.specs.Refusals.{first, unsound, roomRefusal, marginRefusal}
 use Rattle.thermal_image.specs.Canvas.{canvas, finished, lowered, lowerOn}
-use Rattle.drawing.specs.Drawing.{putRefusal, put, putOn, rectRefusal, rect, rectOn, flipRefusal, flip, flipOn}
+use Rattle.places.specs.Places.{putRefusal, rectRefusal, flipRefusal}
+use Rattle.drawing.specs.Drawing.{put, putOn, rect, rectOn, flip, flipOn}
 use Rattle.runs.specs.Steps.{obeyedOn}
 use Rattle.runs.specs.Run.{runRefusal, runCanvas, runOn}
 

@@ -14,9 +14,10 @@ use Rattle.thermal_image.specs.declared.Answer.{Answer}
 use Rattle.refusals.specs.Refusals.{growRefusal}
 use Rattle.thermal_image.specs.Canvas.{sized, finished, answered, written, papered, grown, grownOn}
 use Rattle.refusals.proofs.Codes.{rows-some, grow-done}
-use Rattle.drawing.specs.Drawing.{cropWide, cropTall, grownTo, placed}
-use Rattle.drawing.specs.Steps.{Ready}
-use Rattle.drawing.proofs.Codes.{crop-across, crop-tall}
+use Rattle.places.specs.Places.{cropWide, cropTall}
+use Rattle.places.specs.Steps.{Ready}
+use Rattle.places.proofs.Codes.{crop-across, crop-tall}
+use Rattle.drawing.specs.Drawing.{grownTo, placed}
 
 module _ (W H rows : ℕ) (more : H ≤ rows) where
   pub grows-within : (n : ℕ) → growRefusal W H rows n ≡ done → rows ≤ limit

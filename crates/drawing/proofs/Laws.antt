@@ -1,14 +1,14 @@
 -- What puts, rectangles and flips come to: the record, and the dot in column i of row j. Assumes nothing.
 use mathlib.Core.Path.{_≡_, refl, sym, ap, _∙_}
 use mathlib.Core.Logic.{⊎-elim}
-use mathlib.Core.Bool.{Bool, true, false, not, _&&_, _||_, and-false}
+use mathlib.Core.Bool.{Bool, true, false}
 use mathlib.Core.List.{List}
-use Prim.Native.Nat.{ℕ, _+_, _-_, _*_, _≤_, _<_, min, max}
+use Prim.Native.Nat.{ℕ, _+_, _-_, _*_, _≤_, _<_}
 use native.Mathlib.Omega.{arith}
 use lib.ListN.{length}
-use lib.Dec.{ltb, leb}
-use borrow.Author.Tests.{lt-ltb, le-ltb, ltb-false}
-use Rattle.numbers.specs.Numbers.{done, offPaper}
+use lib.Dec.{ltb}
+use borrow.Author.Tests.{lt-ltb, le-ltb}
+use Rattle.numbers.specs.Numbers.{done}
 use Rattle.colour.specs.Choice.{if_then_else_}
 use Rattle.colour.specs.declared.RGBA.{RGBA}
 use Rattle.colour.specs.Colour.{blended}
@@ -17,46 +17,14 @@ use Rattle.dots.proofs.Laws.{below}
 use Rattle.areas.specs.Areas.{inArea, areaOn, flippedOn}
 use Rattle.areas.proofs.Laws.{area-dot, in-area-true}
 use Rattle.thermal_image.specs.declared.ThermalImage.{ThermalImage}
-use Rattle.refusals.specs.Refusals.{first, unsound, growRefusal}
+use Rattle.refusals.specs.Refusals.{growRefusal}
 use Rattle.thermal_image.specs.Canvas.{sized, finished, answered, written}
-use Rattle.refusals.proofs.Codes.{first-none, neither}
 use Rattle.thermal_image.proofs.Laws.{within-rows, grown-kept, grown-paper}
-use Rattle.drawing.specs.Drawing.{cropped, cropWide, cropTall, tallAfter, sideRefusal, offRefusal, rowsRefusal, drew, grownTo, placed, pixelsDrawn, putRefusal, put, putOn, rectRefusal, rect, rectOn, flipTall, flipRefusal, flip, flipOn}
-use Rattle.drawing.specs.Steps.{Ready}
-use Rattle.drawing.proofs.Codes.{put-ready, Flips, flip-done}
+use Rattle.places.specs.Places.{cropWide, cropTall, tallAfter, flipTall, putRefusal, rectRefusal, flipRefusal}
+use Rattle.places.specs.Steps.{Ready}
+use Rattle.places.proofs.Codes.{put-ready, Flips, flip-done}
+use Rattle.drawing.specs.Drawing.{drew, grownTo, placed, pixelsDrawn, put, putOn, rect, rectOn, flip, flipOn}
 use Rattle.drawing.proofs.Growing.{grows-room, length-grown, grew}
-use Rattle.drawing.proofs.Equal.{equal-refusal}
-
--- ---- what cropping leaves
-
-pub crop-min : (t : ThermalImage) (x y w : ℕ) → x < t .width → cropWide t x y w ≡ min w (t .width - x)
-unfolding cropWide cropped
-crop-min t x y w b = by (cropped t x y w) refl
-  where
-    by : (c : Bool) → cropped t x y w ≡ c → (if c then min w (t .width - x) else w) ≡ min w (t .width - x)
-    by true e = refl
-    by false e = omega (arith, ltb-false (t .width) (x + w) (neither _ _ e .0))
-
-module _ (t : ThermalImage) (grow : t .«auto_grow» ≡ true) where
-  -- with growth on no height is cut
-  pub crop-grown : (x y w h : ℕ) → cropTall t x y w h ≡ h
-  unfolding cropTall
-  crop-grown x y w h = rw (grow, and-false)
-
-  pub tall-grown : (x y w h : ℕ) → tallAfter t x y w h ≡ max (t .height) (y + h)
-  unfolding tallAfter
-  tall-grown x y w h = rw (crop-grown x y w h)
-
-  -- what a rectangle on a sound canvas that grows is refused for: 2, 5, 8, 1
-  pub rect-grown : (x y w h n : ℕ) → unsound (t .width) (t .height) n ≡ done
-      → rectRefusal t x y w h n ≡ first (sideRefusal w h) (first (if leb (t .width) x then offPaper else done) (rowsRefusal (t .width) (max (t .height) (y + h)) n))
-  unfolding rectRefusal putRefusal offRefusal
-  rect-grown x y w h n e =
-      equal-refusal t x y w h (tallAfter t x y w h) n ∙ sym (first-none _ _ e) ∙ rw (tall-grown x y w h, grow, off (leb (t .width) x))
-    where
-      off : (b : Bool) → (b || (not true && leb (t .height) y)) ≡ b
-      off true = refl
-      off false = refl
 
 -- ---- the record
 

@@ -1,3 +1,2 @@
 -- What the contracts of drawing say: document 01, "Canvas".
 pub mod Drawing
-pub mod Steps

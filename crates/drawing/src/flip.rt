@@ -2,10 +2,10 @@
 ghost use mathlib.Core.Path.{_≡_};
 ghost use lib.ListN.{length};
 ghost use Rattle.drawing.specs.Drawing.{flip, flipOn};
-use super::rules::flip_refusal;
-use super::sizes::flip_tall;
 use areas::flip_area;
 use numbers::DONE;
+use places::flip_refusal;
+use places::flip_tall;
 use thermal_image::Answer;
 use thermal_image::ThermalImage;
 

@@ -4,8 +4,6 @@ mod border;
 mod flip;
 mod put;
 mod rect;
-mod rules;
-mod sizes;
 
 pub use border::draw_border;
 pub use flip::flip_pixels;

@@ -3,12 +3,12 @@ ghost use mathlib.Core.Path.{_≡_};
 ghost use mathlib.Core.Bool.{true};
 ghost use lib.ListN.{length};
 ghost use Rattle.drawing.specs.Drawing.{rect, rectOn};
-use super::rules::rect_refusal;
-use super::sizes::crop_pixels;
-use super::sizes::tall_after;
 use areas::draw_area;
 use colour::RGBA;
 use numbers::DONE;
+use places::crop_pixels;
+use places::rect_refusal;
+use places::tall_after;
 use thermal_image::Answer;
 use thermal_image::ThermalImage;
 

@@ -3,7 +3,8 @@
 ghost use mathlib.Core.Path.{_≡_};
 ghost use mathlib.Core.Bool.{true};
 ghost use lib.ListN.{length};
-ghost use Rattle.drawing.specs.Drawing.{put, putOn, rect, rectOn, imagePut, imageOn, flip, flipOn, borderRefusal, borderOn};
+ghost use Rattle.places.specs.Places.{borderRefusal};
+ghost use Rattle.drawing.specs.Drawing.{put, putOn, rect, rectOn, imagePut, imageOn, flip, flipOn, borderOn};
 use colour::RGBA;
 use thermal_image::Answer;
 use thermal_image::ThermalImage;

@@ -2,7 +2,7 @@
 use mathlib.Core.Path.{sym, _∙_}
 use Rattle.thermal_image.proofs.Answers.{kept, changed}
 use Rattle.drawing.specs.Drawing.{borderOn}
-use Rattle.drawing.proofs.Codes.{border-done}
+use Rattle.places.proofs.Codes.{border-done}
 use borrow.Author.Needs.{needs}
 use Rattle.drawing.proofs.border.draw_border.Statement.{statement}
 use Rattle.drawing.proofs.border.draw_border.Tie as tie

@@ -5,7 +5,7 @@ use lib.ListN.{length}
 use denote.Ref.{now}
 use Rattle.thermal_image.proofs.Answers.{refused, did, kept, changed}
 use Rattle.drawing.specs.Drawing.{drew, flip, flipOn}
-use Rattle.drawing.proofs.Codes.{Flips, flip-done}
+use Rattle.places.proofs.Codes.{Flips, flip-done}
 use Rattle.drawing.proofs.Growing.{grows-within, grew}
 use borrow.Author.Needs.{needs}
 use Rattle.drawing.proofs.flip.flip_pixels.Statement.{statement}

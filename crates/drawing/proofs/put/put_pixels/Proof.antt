@@ -3,8 +3,9 @@ use mathlib.Core.Path.{_≡_, refl, sym, _∙_}
 use lib.ListN.{length}
 use denote.Ref.{now}
 use Rattle.thermal_image.proofs.Answers.{refused, did, kept, changed}
-use Rattle.drawing.specs.Drawing.{drew, putRefusal, put, putOn}
-use Rattle.drawing.proofs.Codes.{put-ready}
+use Rattle.places.specs.Places.{putRefusal}
+use Rattle.drawing.specs.Drawing.{drew, put, putOn}
+use Rattle.places.proofs.Codes.{put-ready}
 use borrow.Author.Needs.{needs}
 use Rattle.drawing.proofs.put.put_pixels.Statement.{statement}
 use Rattle.drawing.proofs.put.put_pixels.Tie as tie

@@ -5,9 +5,10 @@ use lib.ListN.{length}
 use denote.Ref.{now}
 use Rattle.areas.proofs.Laws.{area-fits}
 use Rattle.thermal_image.proofs.Answers.{refused, did, kept, changed}
-use Rattle.drawing.specs.Drawing.{drew, imageRefusal, imagePut, imagePlaced, imageOn}
-use Rattle.drawing.specs.Steps.{Ready}
-use Rattle.drawing.proofs.Codes.{image-ready, flips-across, flips-down}
+use Rattle.places.specs.Places.{imageRefusal}
+use Rattle.drawing.specs.Drawing.{drew, imagePut, imagePlaced, imageOn}
+use Rattle.places.specs.Steps.{Ready}
+use Rattle.places.proofs.Codes.{image-ready, flips-across, flips-down}
 use Rattle.drawing.proofs.Growing.{grows-room}
 use borrow.Author.Needs.{needs}
 use Rattle.drawing.proofs.put.put_render_img.Statement.{statement}

@@ -4,9 +4,10 @@ use native.Mathlib.Omega.{arith}
 use lib.ListN.{length}
 use denote.Ref.{now}
 use Rattle.thermal_image.proofs.Answers.{refused, did, kept, changed}
-use Rattle.drawing.specs.Drawing.{drew, putRefusal, rectRefusal, rect, rectOn}
-use Rattle.drawing.specs.Steps.{Ready}
-use Rattle.drawing.proofs.Codes.{put-ready}
+use Rattle.places.specs.Places.{putRefusal, rectRefusal}
+use Rattle.drawing.specs.Drawing.{drew, rect, rectOn}
+use Rattle.places.specs.Steps.{Ready}
+use Rattle.places.proofs.Codes.{put-ready}
 use Rattle.drawing.proofs.Growing.{grows-within, placing}
 use borrow.Author.Needs.{needs}
 use Rattle.drawing.proofs.rect.draw_rect.Statement.{statement}

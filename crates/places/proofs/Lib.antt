@@ -1,0 +1,4 @@
+pub mod Codes
+pub mod Equal
+mod Examples
+mod Unique
