@@ -16,11 +16,12 @@ use Rattle.colour.specs.Colour.{withAlpha}
 use Rattle.dots.specs.Dots.{dotAt, change, within, drawn}
 use Rattle.dots.proofs.Laws.{length-change, change-picked, within-yes}
 use Rattle.bits.specs.Bits.{bitAlpha}
-use Rattle.graphics.specs.declared.formats.Format.the-variants.{Bits}
-use Rattle.graphics.specs.Formats.{alphaOf, bytesOf}
-use Rattle.graphics.specs.Decoding.{factor, pixelOf, isLarge, lacksRoom, refusal, answer, output, decoded, decodedOn}
+use Rattle.images.specs.declared.formats.Format.the-variants.{Bits}
+use Rattle.images.specs.Formats.{alphaOf, bytesOf}
+use Rattle.images.specs.Stretching.{factor, pixelOf, isLarge}
+use Rattle.graphics.specs.Decoding.{lacksRoom, refusal, answer, output, decoded, decodedOn}
 use Rattle.graphics.proofs.Codes.{single-done}
-use Rattle.graphics.proofs.Places.{place, in-data}
+use Rattle.images.proofs.Places.{place, in-data}
 use Rattle.areas.specs.Areas.{areaOn}
 use Rattle.areas.proofs.Laws.{at-column, area-by}
 use Rattle.job.specs.declared.commands.Command.{Command}

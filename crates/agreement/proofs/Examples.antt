@@ -11,8 +11,8 @@ use Rattle.colour.specs.Channel.{blendByte}
 use Rattle.colour.specs.Colour.{blendedAt}
 use Rattle.dots.specs.Dots.{within, drawn}
 use Rattle.bits.specs.Bits.{bitAlpha}
-use Rattle.graphics.specs.Formats.{alphaOf, bytesOf}
-use Rattle.graphics.specs.Decoding.{factor, pixelOf, isLarge}
+use Rattle.images.specs.Formats.{alphaOf, bytesOf}
+use Rattle.images.specs.Stretching.{factor, pixelOf, isLarge}
 use Rattle.areas.specs.Areas.{inArea}
 use Rattle.job.specs.Records.{le16, le32, rgbaAt, recordAt, one, upTo, records, Bytes}
 use Rattle.job.specs.Commands.{soundPaper, soundCommand, soundCommands, soundRecords, sound, commandAt, commandsIn, afterPaper, commands}

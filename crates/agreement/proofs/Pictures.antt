@@ -4,7 +4,7 @@ use mathlib.Core.Path.{_≡_, ap, sym, _∙_}
 use mathlib.Core.List.{List, [], _∷_}
 use mathlib.Core.Bool.{false, true≢false}
 use Rattle.colour.specs.declared.RGBA.{RGBA}
-use Rattle.graphics.specs.Decoding.{factor}
+use Rattle.images.specs.Stretching.{factor}
 use Rattle.job.specs.declared.commands.Command.{Command}
 use Rattle.job.specs.declared.commands.Command.the-variants.{Rectangle, Image, Margin, Flip}
 use Rattle.job.specs.Commands.{paperWidth, paperColor, commands}

@@ -8,8 +8,9 @@ use lib.Dec.{eqb}
 use Rattle.numbers.specs.Numbers.{done}
 use Rattle.colour.specs.Choice.{if_then_else_}
 use Rattle.colour.specs.declared.RGBA.{RGBA}
-use Rattle.graphics.specs.declared.formats.Format.the-variants.{Bits}
-use Rattle.graphics.specs.Decoding.{factor, decoded, decodedOn}
+use Rattle.images.specs.declared.formats.Format.the-variants.{Bits}
+use Rattle.images.specs.Stretching.{factor}
+use Rattle.graphics.specs.Decoding.{decoded, decodedOn}
 use Rattle.job.specs.declared.commands.Command.{Command}
 use Rattle.job.specs.declared.commands.Command.the-variants.{Rectangle, Image, Margin, Flip}
 use Rattle.job.specs.declared.dropping.Dropped.{Dropped}

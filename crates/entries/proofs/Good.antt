@@ -5,10 +5,10 @@ use mathlib.Core.Bool.{true}
 use native.Mathlib.Omega.{arith}
 use borrow.Author.Tests.{le-leb, eq-eqb}
 use Rattle.colour.specs.declared.RGBA.{RGBA}
-use Rattle.graphics.specs.declared.formats.Format.the-variants.{Bits}
-use Rattle.graphics.specs.Formats.{bytesOf}
-use Rattle.graphics.specs.Decoding.{factor}
-use Rattle.graphics.proofs.Codes.{factor-range}
+use Rattle.images.specs.declared.formats.Format.the-variants.{Bits}
+use Rattle.images.specs.Formats.{bytesOf}
+use Rattle.images.specs.Stretching.{factor}
+use Rattle.images.proofs.Sides.{factor-range}
 use Rattle.entries.specs.Entries.{rectangleEntry, imageEntry, goodStretch, goodImage, goodKind, goodEntry}
 
 -- on the paper, in a plan W wide and H high with n bytes of data

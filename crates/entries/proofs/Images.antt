@@ -13,9 +13,9 @@ use Rattle.colour.specs.Colour.{withAlpha}
 use Rattle.dots.specs.Dots.{dotAt, change, within, drawn}
 use Rattle.dots.proofs.Laws.{change-by}
 use Rattle.bits.specs.Bits.{rowBytes, bitAlpha, Shown, bitsOn, pixelDrawn}
-use Rattle.graphics.specs.declared.formats.Format.the-variants.{Bits}
-use Rattle.graphics.specs.Formats.{alphaOf, bytesOf}
-use Rattle.graphics.specs.Decoding.{pixelOf}
+use Rattle.images.specs.declared.formats.Format.the-variants.{Bits}
+use Rattle.images.specs.Formats.{alphaOf, bytesOf}
+use Rattle.images.specs.Stretching.{pixelOf}
 use Rattle.entries.specs.declared.Entry.{Entry}
 use Rattle.entries.specs.Entries.{goodStretch, goodImage, imagePixel}
 

@@ -3,7 +3,7 @@ use Prim.Native.Nat.{ℕ, _*_, _-_, _≤_, min}
 use mathlib.Core.Path.{_≡_, refl}
 use Rattle.colour.specs.declared.RGBA.{RGBA}
 use Rattle.job.specs.Commands.{rectangleKind, imageKind}
-use Rattle.graphics.specs.Decoding.{factor}
+use Rattle.images.specs.Stretching.{factor}
 use Rattle.entries.specs.declared.Entry.{Entry}
 use Rattle.entries.specs.Entries.{rectangleEntry, imageEntry}
 

@@ -9,9 +9,9 @@ use Rattle.numbers.specs.Numbers.{limit}
 use Rattle.colour.specs.Choice.{if_then_else_}
 use Rattle.colour.specs.declared.RGBA.{RGBA}
 use Rattle.dots.specs.Dots.{drawn}
-use Rattle.graphics.specs.declared.formats.Format.the-variants.{Bits}
-use Rattle.graphics.specs.Formats.{bytesOf}
-use Rattle.graphics.specs.Decoding.{pixelOf}
+use Rattle.images.specs.declared.formats.Format.the-variants.{Bits}
+use Rattle.images.specs.Formats.{bytesOf}
+use Rattle.images.specs.Stretching.{pixelOf}
 use Rattle.areas.specs.Areas.{inArea, areaOn}
 use Rattle.job.specs.Commands.{rectangleKind, imageKind, soundMode}
 use Rattle.entries.specs.declared.Entry.{Entry}

@@ -8,13 +8,13 @@ ghost use mathlib.Core.Bool.{true};
 ghost use Prim.Native.Nat.{_+_, _*_, _≤_, min, max};
 ghost use lib.ListN.{length};
 ghost use Rattle.numbers.specs.Numbers.{limit};
-ghost use Rattle.graphics.specs.Decoding.{factor};
+ghost use Rattle.images.specs.Stretching.{factor};
 ghost use Rattle.areas.specs.Areas.{Fits, areaOn};
 ghost use Rattle.entries.specs.Entries.{rectangleEntry, imageEntry, goodKind, goodEntry, ownRow, entryRows, Placed};
 use areas::draw_area;
 use colour::RGBA;
-use graphics::factor_of;
 use image::image_rows;
+use images::factor_of;
 pub use rules::good_entry;
 
 // Kind and mode are the job's numbers. A rectangle has zeros from the stretch on; the bit rows of an

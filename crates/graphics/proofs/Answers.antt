@@ -7,12 +7,14 @@ use native.Mathlib.Omega.{arith}
 use borrow.Author.Tests.{eq-eqb, ne-eqb, ltb-false}
 use Rattle.numbers.specs.Numbers.{done}
 use Rattle.colour.specs.declared.RGBA.{RGBA}
-use Rattle.graphics.specs.declared.formats.Format.{Format}
-use Rattle.graphics.specs.Formats.{bytesOf, rasterOf}
+use Rattle.images.specs.declared.formats.Format.{Format}
+use Rattle.images.specs.Formats.{bytesOf, rasterOf}
 use Rattle.bits.specs.Bits.{landed}
 use Rattle.graphics.specs.Decoding.{lacksRoom, answer, output}
-use Rattle.graphics.specs.Steps.{Sound, Layered, pictureOn}
-use Rattle.graphics.proofs.Codes.{Small, Layers}
+use Rattle.images.specs.Steps.{Sound, pictureOn}
+use Rattle.graphics.specs.Steps.{Layered}
+use Rattle.images.proofs.Sides.{Small}
+use Rattle.graphics.proofs.Codes.{Layers}
 
 -- ---- the answer and the output
 

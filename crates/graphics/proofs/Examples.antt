@@ -7,10 +7,11 @@ use lib.Ieee.{ofInt, mul, div}
 use Rattle.colour.specs.declared.RGBA.{RGBA}
 use Rattle.colour.specs.Channel.{blendByte, product, roundAway, multiplyByte}
 use Rattle.colour.specs.Colour.{rgba, withAlpha}
-use Rattle.graphics.specs.declared.formats.Format.the-variants.{Bits, Columns}
+use Rattle.images.specs.declared.formats.Format.the-variants.{Bits, Columns}
 use Rattle.bits.specs.Bits.{bitAlpha}
-use Rattle.graphics.specs.Formats.{alphaOf, bytesOf}
-use Rattle.graphics.specs.Decoding.{factor, isLarge, lacksRoom, refusal, answer, decoded}
+use Rattle.images.specs.Formats.{alphaOf, bytesOf}
+use Rattle.images.specs.Stretching.{factor, isLarge}
+use Rattle.graphics.specs.Decoding.{lacksRoom, refusal, answer, decoded}
 use Rattle.graphics.specs.Layers.{layerBytes, outgrown, layersRefusal, merged}
 
 -- what the definitions give, and what 01 says

@@ -14,11 +14,12 @@ use Rattle.colour.specs.declared.RenderColors.{RenderColors}
 use Rattle.colour.specs.Colour.{colorForNumber, blended}
 use Rattle.dots.specs.Dots.{within}
 use Rattle.dots.proofs.Laws.{change-over, length-change}
-use Rattle.graphics.specs.declared.scale.Source.{Source}
-use Rattle.graphics.specs.Formats.{rasterOf}
+use Rattle.images.specs.declared.scale.Source.{Source}
+use Rattle.images.specs.Formats.{rasterOf}
 use Rattle.graphics.specs.Layers.{layerBytes, layerStart, layerColor, layerData, layerPixel, mergedPixel}
 use Rattle.bits.specs.Bits.{landed}
-use Rattle.graphics.specs.Steps.{Sound, Layered, inColor, sourcePixel, pictureOn}
+use Rattle.images.specs.Steps.{Sound, inColor, sourcePixel, pictureOn}
+use Rattle.graphics.specs.Steps.{Layered}
 
 -- ---- one layer
 

@@ -1,5 +1,3 @@
-pub mod Places
-mod Scaling
 pub mod Codes
 mod Answers
 mod Layering

@@ -4,10 +4,6 @@ use Rattle.colour.proofs.OneAnswer.{OneAnswer, OneContent, both}
 use Rattle.graphics.proofs.image_from_raster_bytes_single_color.Reads as raster
 use Rattle.graphics.proofs.image_from_column_bytes_single_color.Reads as column
 use Rattle.graphics.proofs.image_from_raster_bytes_multi_color.Reads as layers
-use Rattle.graphics.proofs.scale.Source.in_color.Reads as in-color
-use Rattle.graphics.proofs.refusals.factor_of.Reads as factor-of
-use Rattle.graphics.proofs.refusals.is_large.Reads as is-large
-use Rattle.graphics.proofs.refusals.bytes_of.Reads as bytes-of
 
 raster-one : OneAnswer raster.Post
 raster-one k a x y e f p q = both (p .0) (q .0)
@@ -26,15 +22,3 @@ layers-one k a x y e f p q = both (p .0) (q .0)
 
 layers-output : OneContent layers.Post (λ k e. now (e .1 .1 .1 .1 .1 .1 .1 .1 .0))
 layers-output k a x y e f p q = both (p .1) (q .1)
-
-in-color-one : OneAnswer in-color.Post
-in-color-one k a x y e f p q = both p q
-
-factor-of-one : OneAnswer factor-of.Post
-factor-of-one k a x y e f p q = both p q
-
-is-large-one : OneAnswer is-large.Post
-is-large-one k a x y e f p q = both p q
-
-bytes-of-one : OneAnswer bytes-of.Post
-bytes-of-one k a x y e f p q = both p q

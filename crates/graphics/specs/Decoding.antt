@@ -1,29 +1,17 @@
 -- Single-colour images: 01, "Decoding". A decoded image is a pixel for each column and row.
 use Prim.Native.Nat.{ℕ, _*_, _/_, _%_}
-use mathlib.Core.Bool.{Bool, not, _||_}
+use mathlib.Core.Bool.{Bool, not}
 use mathlib.Core.List.{List}
 use lib.ListN.{length}
 use lib.Dec.{ltb, eqb}
-use Rattle.numbers.specs.Numbers.{limit, done, noRoom, tooLarge, wrongLength}
+use Rattle.numbers.specs.Numbers.{done, noRoom, tooLarge, wrongLength}
 use Rattle.colour.specs.Choice.{if_then_else_}
-use Rattle.colour.specs.Colour.{withAlpha}
 use Rattle.colour.specs.declared.RGBA.{RGBA}
 use Rattle.dots.specs.Dots.{change, within}
-use Rattle.graphics.specs.declared.formats.Format.{Format}
+use Rattle.images.specs.declared.formats.Format.{Format}
+use Rattle.images.specs.Formats.{bytesOf}
+use Rattle.images.specs.Stretching.{factor, pixelOf, isLarge}
 use Rattle.graphics.specs.declared.Decoded.{Decoded}
-use Rattle.graphics.specs.Formats.{alphaOf, bytesOf}
-
--- stretch factors 0 count as 1
-unfoldable pub factor : ℕ → ℕ
-factor n = if eqb n 0 then 1 else n
-
--- each dot becomes a block of fx by fy, and each pixel is `with_alpha` of the colour: the pixel at column i, row j
-unfoldable pub pixelOf : Format → List ℕ → ℕ → ℕ → ℕ → ℕ → RGBA → ℕ → ℕ → RGBA
-pixelOf f bytes w h fx fy c i j = withAlpha c (alphaOf f bytes w h (i / fx) (j / fy))
-
--- a given or stretched width or height above the limit
-unfoldable pub isLarge : ℕ → ℕ → ℕ → ℕ → Bool
-isLarge w h fx fy = ltb limit w || ltb limit h || ltb limit (w * fx) || ltb limit (h * fy)
 
 -- an output of `room` bytes is too short for the stretched image
 unfoldable pub lacksRoom : ℕ → ℕ → ℕ → ℕ → ℕ → Bool

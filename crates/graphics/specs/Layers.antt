@@ -9,9 +9,10 @@ use Rattle.colour.specs.Choice.{if_then_else_}
 use Rattle.colour.specs.Colour.{colorForNumber, blended}
 use Rattle.colour.specs.declared.RGBA.{RGBA}
 use Rattle.colour.specs.declared.RenderColors.{RenderColors}
+use Rattle.images.specs.Formats.{bytesOf, rasterOf}
+use Rattle.images.specs.Stretching.{factor, pixelOf, isLarge}
 use Rattle.graphics.specs.declared.Decoded.{Decoded}
-use Rattle.graphics.specs.Formats.{bytesOf, rasterOf}
-use Rattle.graphics.specs.Decoding.{factor, pixelOf, isLarge, lacksRoom, answer, output}
+use Rattle.graphics.specs.Decoding.{lacksRoom, answer, output}
 
 -- a layer's bytes after its colour byte: floor(w/8)·h as bits, w·h as alphas
 unfoldable pub layerBytes : Bool → ℕ → ℕ → ℕ

@@ -1,5 +1,4 @@
 -- What the contracts of graphics say: document 01, "Decoding".
-pub mod Formats
 pub mod Decoding
 pub mod Layers
 pub mod Steps

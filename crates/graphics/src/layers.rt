@@ -3,12 +3,13 @@ ghost use mathlib.Core.Path.{_≡_};
 ghost use mathlib.Core.Bool.{false};
 ghost use Prim.Native.Nat.{_+_, _-_, _*_, _≤_, _<_};
 ghost use lib.ListN.{length};
-ghost use Rattle.graphics.specs.Steps.{Layered, pictureOn};
+ghost use Rattle.images.specs.Steps.{pictureOn};
+ghost use Rattle.graphics.specs.Steps.{Layered};
 ghost use Rattle.graphics.specs.Layers.{layerPixel, mergedPixel};
 use super::refusals::layer_bytes;
-use super::scale::Source;
-use super::scale::decode_single_color;
 use colour::RenderColors;
+use images::Source;
+use images::decode_single_color;
 
 // Layer k: its data is the part of the input after its colour byte, and goes through the
 // single-colour decoder, which puts the layer or blends it onto those before it.

@@ -1,28 +1,25 @@
 // Decoding of printer images, as in the Rust's graphics.rs: raster, column and layered images
 // become dots in an output that the caller lends.
-mod formats;
 mod layers;
 mod refusals;
-mod scale;
 
 ghost use mathlib.Core.Path.{_≡_};
 ghost use lib.ListN.{length};
-ghost use Rattle.graphics.specs.Formats.{rasterOf};
+ghost use Rattle.images.specs.Formats.{rasterOf};
+ghost use Rattle.images.specs.declared.formats.Format.{Format};
 ghost use Rattle.graphics.specs.Decoding.{decoded, decodedOn};
 ghost use Rattle.graphics.specs.Layers.{merged, mergedOn};
 use colour::RGBA;
 use colour::RenderColors;
-pub use formats::Format;
-use formats::raster_of;
+use images::Format;
+use images::Source;
+use images::decode_single_color;
+use images::factor_of;
+use images::raster_of;
 use layers::merge_image_layers;
 use numbers::DONE;
-pub use refusals::bytes_of;
-pub use refusals::factor_of;
-pub use refusals::is_large;
 use refusals::layers_refusal;
 use refusals::refusal_of;
-pub use scale::Source;
-use scale::decode_single_color;
 
 // What a decoder answers: the number, and the stretched width and height.
 #[repr(C)]

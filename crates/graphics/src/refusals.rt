@@ -2,62 +2,24 @@
 ghost use mathlib.Core.Path.{_≡_};
 ghost use Prim.Native.Nat.{_*_, _≤_};
 ghost use Rattle.numbers.specs.Numbers.{limit};
-ghost use Rattle.graphics.specs.Formats.{bytesOf};
-ghost use Rattle.graphics.specs.Decoding.{factor, isLarge, lacksRoom, refusal};
+ghost use Rattle.graphics.specs.Decoding.{lacksRoom, refusal};
 ghost use Rattle.graphics.specs.Layers.{layerBytes, outgrown, layersRefusal};
-use super::formats::Format;
-use super::formats::raster_of;
+use images::Format;
+use images::bytes_of;
+use images::is_large;
+use images::raster_of;
 use numbers::DONE;
 use numbers::LAYER_SIZE;
-use numbers::LIMIT;
 use numbers::NO_LAYERS;
 use numbers::NO_ROOM;
 use numbers::TOO_LARGE;
 use numbers::WRONG_LENGTH;
-
-pub fn factor_of(stretch: u8) -> u32
-    ensures { λ r. ⌜ r ≡ factor stretch ⌝ }
-{
-    if stretch == 0 {
-        return 1;
-    }
-    stretch as u32
-}
-
-pub fn is_large(w: u32, h: u32, fx: u32, fy: u32) -> bool
-    requires { ⌜ (fx ≤ 255) × (fy ≤ 255) ⌝ }
-    ensures { λ r. ⌜ r ≡ isLarge w h fx fy ⌝ }
-{
-    if w > LIMIT {
-        return true;
-    }
-    if h > LIMIT {
-        return true;
-    }
-    if w * fx > LIMIT {
-        return true;
-    }
-    h * fy > LIMIT
-}
 
 fn lacks_room(w: u32, h: u32, fx: u32, fy: u32, room: usize) -> bool
     requires { ⌜ (w * fx ≤ limit) × (h * fy ≤ limit) ⌝ }
     ensures { λ r. ⌜ r ≡ lacksRoom w h fx fy room ⌝ }
 {
     room < 4 * ((w * fx) as usize * (h * fy) as usize)
-}
-
-pub fn bytes_of(format: Format, w: u32, h: u32) -> usize
-    requires { ⌜ (w ≤ limit) × (h ≤ limit) ⌝ }
-    ensures { λ r. ⌜ r ≡ bytesOf format w h ⌝ }
-{
-    let w = w as usize;
-    let h = h as usize;
-    match format {
-        Format::Bits => (w + 7) / 8 * h,
-        Format::Alphas => w * h,
-        Format::Columns => w * ((h + 7) / 8),
-    }
 }
 
 pub fn refusal_of(format: Format, w: u32, h: u32, fx: u32, fy: u32, n: usize, room: usize) -> u8

@@ -9,10 +9,10 @@ use lib.Dec.{ltb, leb, eqb}
 use Rattle.numbers.specs.Numbers.{limit, done, tooLarge, wrongLength, offPaper, tooTall, emptyArea}
 use Rattle.colour.specs.Choice.{if_then_else_}
 use Rattle.colour.specs.declared.RGBA.{RGBA}
-use Rattle.graphics.specs.declared.formats.Format.the-variants.{Bits}
-use Rattle.graphics.specs.Formats.{bytesOf}
-use Rattle.graphics.specs.Decoding.{factor, isLarge}
-use Rattle.graphics.proofs.Codes.{Small, small}
+use Rattle.images.specs.declared.formats.Format.the-variants.{Bits}
+use Rattle.images.specs.Formats.{bytesOf}
+use Rattle.images.specs.Stretching.{factor, isLarge}
+use Rattle.images.proofs.Sides.{Small, small}
 use Rattle.job.specs.declared.commands.Command.{Command}
 use Rattle.job.specs.declared.commands.Command.the-variants.{Rectangle, Image, Margin, Flip}
 use Rattle.job.specs.Dropping.{tallRefusal, putRefusal, imageRefusal, flipRefusal, refusal, grown}

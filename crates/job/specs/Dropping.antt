@@ -6,9 +6,9 @@ use lib.ListN.{length, replicate}
 use lib.Dec.{ltb, leb, eqb}
 use Rattle.numbers.specs.Numbers.{limit, done, tooLarge, wrongLength, offPaper, tooTall, emptyArea, badJob, tooLong}
 use Rattle.colour.specs.Choice.{if_then_else_}
-use Rattle.graphics.specs.declared.formats.Format.the-variants.{Bits}
-use Rattle.graphics.specs.Formats.{bytesOf}
-use Rattle.graphics.specs.Decoding.{factor, isLarge}
+use Rattle.images.specs.declared.formats.Format.the-variants.{Bits}
+use Rattle.images.specs.Formats.{bytesOf}
+use Rattle.images.specs.Stretching.{factor, isLarge}
 use Rattle.job.specs.declared.commands.Command.{Command}
 use Rattle.job.specs.declared.commands.Command.the-variants.{Rectangle, Image, Margin, Flip}
 use Rattle.job.specs.declared.dropping.Dropped.{Dropped}

@@ -3,13 +3,13 @@
 ghost use mathlib.Core.Path.{_≡_};
 ghost use Prim.Native.Nat.{_+_, _≤_, max};
 ghost use Rattle.numbers.specs.Numbers.{limit};
-ghost use Rattle.graphics.specs.Decoding.{factor};
+ghost use Rattle.images.specs.Stretching.{factor};
 ghost use Rattle.job.specs.Dropping.{tallRefusal, putRefusal, imageRefusal, flipRefusal, refusal, grown};
 use super::commands::Command;
-use graphics::Format;
-use graphics::bytes_of;
-use graphics::factor_of;
-use graphics::is_large;
+use images::Format;
+use images::bytes_of;
+use images::factor_of;
+use images::is_large;
 use numbers::DONE;
 use numbers::EMPTY_AREA;
 use numbers::LIMIT;

@@ -7,8 +7,8 @@ use Rattle.colour.specs.Channel.{blendByte, product, roundAway, multiplyByte}
 use Rattle.colour.specs.Colour.{blendedAt, multiplied}
 use Rattle.dots.specs.Dots.{chan, change, drawn, paint, tab, within}
 use Rattle.bits.specs.Bits.{bitAlpha}
-use Rattle.graphics.specs.Formats.{alphaOf, bytesOf}
-use Rattle.graphics.specs.Decoding.{factor, isLarge, pixelOf}
+use Rattle.images.specs.Formats.{alphaOf, bytesOf}
+use Rattle.images.specs.Stretching.{factor, isLarge, pixelOf}
 use Rattle.areas.specs.Areas.{inArea}
 use Rattle.job.specs.Records.{le16, le32, one, recordAt, records, rgbaAt, upTo}
 use Rattle.job.specs.Commands.{afterPaper, commandAt, commands, commandsIn, sound, soundCommand, soundCommands, soundPaper, soundRecords}

@@ -10,7 +10,7 @@ use Rattle.numbers.specs.Numbers.{done, notTranslated}
 use Rattle.colour.specs.Choice.{if_then_else_}
 use Rattle.colour.specs.Colour.{blank}
 use Rattle.colour.specs.declared.RGBA.{RGBA}
-use Rattle.graphics.specs.Decoding.{factor}
+use Rattle.images.specs.Stretching.{factor}
 use Rattle.job.specs.declared.commands.Command.{Command}
 use Rattle.job.specs.declared.commands.Command.the-variants.{Rectangle, Image, Margin, Flip}
 use Rattle.job.specs.Commands.{commands}

@@ -11,7 +11,7 @@ use lib.ListN.{length}
 use Rattle.numbers.specs.Numbers.{limit, done}
 use Rattle.colour.specs.Choice.{if_then_else_}
 use Rattle.colour.specs.declared.RGBA.{RGBA}
-use Rattle.graphics.specs.Decoding.{factor}
+use Rattle.images.specs.Stretching.{factor}
 use Rattle.job.specs.declared.records.Rec.the-variants.{Record, Bad, End}
 use Rattle.job.specs.declared.dropping.Dropped.{Dropped}
 use Rattle.job.specs.declared.commands.Command.{Command}

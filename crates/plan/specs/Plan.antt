@@ -8,7 +8,7 @@ use Rattle.numbers.specs.Numbers.{done, notTranslated}
 use Rattle.colour.specs.Choice.{if_then_else_}
 use Rattle.colour.specs.Colour.{blank}
 use Rattle.colour.specs.declared.RGBA.{RGBA}
-use Rattle.graphics.specs.Decoding.{factor}
+use Rattle.images.specs.Stretching.{factor}
 use Rattle.job.specs.Commands.{paperWidth, paperColor, commands}
 use Rattle.job.specs.Dropping.{jobRefusal, jobHeight, jobDropped, keptOf, noDropped, padded}
 use Rattle.job.specs.declared.dropping.Dropped.{Dropped}

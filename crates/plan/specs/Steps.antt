@@ -4,7 +4,7 @@ use mathlib.Core.List.{List, [], _∷_}
 use lib.ListN.{getD, set}
 use Rattle.numbers.specs.Numbers.{limit}
 use Rattle.colour.specs.Choice.{if_then_else_}
-use Rattle.graphics.specs.Decoding.{factor}
+use Rattle.images.specs.Stretching.{factor}
 use Rattle.job.specs.declared.commands.Command.{Command}
 use Rattle.job.specs.declared.commands.Command.the-variants.{Rectangle, Image, Margin, Flip}
 use Rattle.job.specs.Dropping.{mostCommands, refusal, kept}

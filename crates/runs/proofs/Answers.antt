@@ -12,7 +12,7 @@ use Rattle.colour.specs.Choice.{if_then_else_}
 use Rattle.colour.specs.declared.RGBA.{RGBA}
 use Rattle.dots.specs.Dots.{change, within}
 use Rattle.dots.proofs.Laws.{length-change, run-none}
-use Rattle.graphics.specs.Decoding.{factor}
+use Rattle.images.specs.Stretching.{factor}
 use Rattle.areas.specs.Areas.{Fits, flippedOn}
 use Rattle.moves.specs.Moves.{loweredOn}
 use Rattle.job.specs.declared.commands.Command.{Command}

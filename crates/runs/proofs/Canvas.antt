@@ -15,7 +15,7 @@ use Rattle.colour.specs.declared.RGBA.{RGBA}
 use Rattle.colour.specs.Colour.{blended}
 use Rattle.dots.specs.Dots.{dotAt, change, within}
 use Rattle.dots.proofs.Laws.{below, within-yes, within-low, within-high, length-change, change-picked, change-kept}
-use Rattle.graphics.specs.Decoding.{factor}
+use Rattle.images.specs.Stretching.{factor}
 use Rattle.areas.specs.Areas.{inArea, flippedOn}
 use Rattle.areas.proofs.Laws.{in-area, in-area-true, not-in-area, length-area, area-dot, area-past}
 use Rattle.moves.specs.Moves.{loweredOn}

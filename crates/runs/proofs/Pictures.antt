@@ -12,7 +12,7 @@ use Rattle.colour.specs.declared.RGBA.{RGBA}
 use Rattle.dots.specs.Dots.{dotAt, within}
 use Rattle.dots.proofs.Laws.{Place, before, inside, past, place, below, within-yes, within-low, within-high, length-change, change-ext, change-picked, change-kept}
 use Rattle.areas.proofs.Laws.{at-column}
-use Rattle.graphics.specs.Decoding.{factor}
+use Rattle.images.specs.Stretching.{factor}
 use Rattle.areas.specs.Areas.{inArea}
 use Rattle.job.specs.declared.commands.Command.the-variants.{Rectangle, Image}
 use Rattle.entries.specs.Entries.{rectangleEntry, imageEntry, imagePixel, entryPixel, entryOn}

@@ -7,8 +7,8 @@ use Rattle.colour.specs.Choice.{if_then_else_}
 use Rattle.colour.specs.declared.RGBA.{RGBA}
 use Rattle.colour.specs.Colour.{blended}
 use Rattle.dots.specs.Dots.{change, within, drawn}
-use Rattle.graphics.specs.declared.formats.Format.the-variants.{Bits}
-use Rattle.graphics.specs.Decoding.{factor, pixelOf}
+use Rattle.images.specs.declared.formats.Format.the-variants.{Bits}
+use Rattle.images.specs.Stretching.{factor, pixelOf}
 use Rattle.areas.specs.Areas.{inArea}
 use Rattle.job.specs.declared.commands.Command.{Command}
 use Rattle.job.specs.declared.commands.Command.the-variants.{Rectangle, Image, Margin, Flip}

@@ -6,7 +6,7 @@ use Rattle.numbers.specs.Numbers.{limit}
 use Rattle.colour.specs.Choice.{if_then_else_}
 use Rattle.colour.specs.declared.RGBA.{RGBA}
 use Rattle.dots.specs.Dots.{change, within}
-use Rattle.graphics.specs.Decoding.{factor}
+use Rattle.images.specs.Stretching.{factor}
 use Rattle.areas.specs.Areas.{flippedOn}
 use Rattle.moves.specs.Moves.{loweredOn}
 use Rattle.job.specs.declared.dropping.Dropped.{Dropped}

@@ -7,9 +7,9 @@ use Rattle.thermal.proofs.colours.thermal_blend_foreground_with_alpha.R
 use Rattle.thermal.proofs.colours.thermal_multiply_foreground.Reads as multiply-foreground
 use Rattle.thermal.proofs.colours.thermal_color_for_number.Reads as color-for-number
 use Rattle.thermal.proofs.colours.thermal_draw_dots.Reads as draw-dots
-use Rattle.thermal.proofs.images.thermal_image_from_raster_bytes_single_color.Reads as raster
-use Rattle.thermal.proofs.images.thermal_image_from_column_bytes_single_color.Reads as column
-use Rattle.thermal.proofs.images.thermal_image_from_raster_bytes_multi_color.Reads as layers
+use Rattle.thermal.proofs.decoders.thermal_image_from_raster_bytes_single_color.Reads as raster
+use Rattle.thermal.proofs.decoders.thermal_image_from_column_bytes_single_color.Reads as column
+use Rattle.thermal.proofs.decoders.thermal_image_from_raster_bytes_multi_color.Reads as layers
 use Rattle.thermal.proofs.canvas.thermal_new.Reads as new-canvas
 use Rattle.thermal.proofs.canvas.thermal_get_height.Reads as get-height
 use Rattle.thermal.proofs.canvas.thermal_expand_to_height.Reads as expand-to-height

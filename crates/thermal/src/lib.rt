@@ -2,6 +2,6 @@
 // exports says. Colours and canvas records cross by value, as C's structs.
 pub mod canvas;
 pub mod colours;
+pub mod decoders;
 pub mod draw;
-pub mod images;
 pub mod jobs;

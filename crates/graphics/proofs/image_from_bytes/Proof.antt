@@ -5,8 +5,9 @@ use native.Mathlib.Omega.{arith}
 use lib.ListN.{length}
 use denote.Ref.{now}
 use Rattle.graphics.specs.Decoding.{decoded, decodedOn}
-use Rattle.graphics.specs.Steps.{sourcePixel}
-use Rattle.graphics.proofs.Codes.{factor-range, Single, single-done}
+use Rattle.images.specs.Steps.{sourcePixel}
+use Rattle.images.proofs.Sides.{factor-range}
+use Rattle.graphics.proofs.Codes.{Single, single-done}
 use Rattle.graphics.proofs.Answers.{answer-refused, answer-done, output-refused, output-done, room-for, sound-of}
 use borrow.Author.Needs.{needs}
 use Rattle.graphics.proofs.image_from_bytes.Statement.{statement}

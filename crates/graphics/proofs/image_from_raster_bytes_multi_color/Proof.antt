@@ -5,7 +5,8 @@ use native.Mathlib.Omega.{arith}
 use lib.ListN.{length}
 use denote.Ref.{now}
 use Rattle.graphics.specs.Layers.{merged, mergedOn}
-use Rattle.graphics.proofs.Codes.{factor-range, Layers, layers-done}
+use Rattle.images.proofs.Sides.{factor-range}
+use Rattle.graphics.proofs.Codes.{Layers, layers-done}
 use Rattle.graphics.proofs.Answers.{answer-refused, answer-done, output-refused, output-done, room-for, layered-of}
 use borrow.Author.Needs.{needs}
 use Rattle.graphics.proofs.image_from_raster_bytes_multi_color.Statement.{statement}

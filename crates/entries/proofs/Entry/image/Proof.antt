@@ -1,6 +1,6 @@
 -- `entries::Entry::image` meets its contract. Assumes nothing.
 use native.Mathlib.Omega.{arith}
-use Rattle.graphics.proofs.Codes.{factor-range}
+use Rattle.images.proofs.Sides.{factor-range}
 use Rattle.entries.proofs.Made.{image-made, scaled}
 use borrow.Author.Needs.{needs}
 use Rattle.entries.proofs.Entry.image.Statement.{statement}
@@ -8,7 +8,7 @@ use Rattle.entries.proofs.Entry.image.Tie as tie
 use Rattle.entries.proofs.Entry.image.Reads as reads
 use Rattle.entries.proofs.Entry.image.Lts as lts
 use Rattle.entries.proofs.smaller.Reads as smaller-reads
-use Rattle.graphics.proofs.factor_of.Reads as factor-of-reads
+use Rattle.images.proofs.factor_of.Reads as factor-of-reads
 
 factor-of-requires : tie.Need-factor-of-requires
 factor-of-requires c κs = search needs

@@ -3,8 +3,8 @@ use mathlib.Core.Bool.{and-false, and-true}
 use Prim.Native.Nat.{_+_, _/_}
 use native.Mathlib.Omega.{arith}
 use borrow.Author.Tests.{le-leb, lt-leb}
-use Rattle.graphics.specs.declared.formats.Format.the-variants.{Bits}
-use Rattle.graphics.specs.Formats.{bytesOf}
+use Rattle.images.specs.declared.formats.Format.the-variants.{Bits}
+use Rattle.images.specs.Formats.{bytesOf}
 use Rattle.entries.specs.Entries.{goodImage}
 use Rattle.entries.proofs.Tests.{Bounds, product}
 use borrow.Author.Needs.{needs}

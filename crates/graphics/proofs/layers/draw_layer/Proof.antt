@@ -4,7 +4,7 @@ use Prim.Native.Nat.{_+_, _*_, _≤_}
 use native.Mathlib.Omega.{arith}
 use lib.ListN.{length}
 use denote.Ref.{now}
-use Rattle.graphics.proofs.Scaling.{sides}
+use Rattle.images.proofs.Sides.{sides}
 use Rattle.graphics.proofs.Layering.{layer-ends, layer-sound, layer-drawn}
 use borrow.Author.Needs.{needs}
 use Rattle.graphics.proofs.layers.draw_layer.Statement.{statement}

@@ -2,7 +2,7 @@
 use mathlib.Core.Path.{refl}
 use native.Mathlib.Omega.{arith}
 use Rattle.graphics.specs.Decoding.{lacksRoom}
-use Rattle.graphics.proofs.Codes.{area}
+use Rattle.images.proofs.Sides.{area}
 use borrow.Author.Needs.{needs}
 use Rattle.graphics.proofs.refusals.lacks_room.Statement.{statement}
 use Rattle.graphics.proofs.refusals.lacks_room.Tie as tie

@@ -3,7 +3,7 @@ use mathlib.Core.Path.{refl}
 use native.Mathlib.Omega.{arith}
 use Prim.Native.Nat.{_/_}
 use Rattle.graphics.specs.Layers.{layerBytes}
-use Rattle.graphics.proofs.Codes.{area}
+use Rattle.images.proofs.Sides.{area}
 use Rattle.graphics.proofs.refusals.layer_bytes.Statement.{statement}
 use Rattle.graphics.proofs.refusals.layer_bytes.Tie as tie
 

@@ -6,10 +6,12 @@ use native.Mathlib.Nat.{mul-le-mul}
 use native.Mathlib.Omega.{arith}
 use Rattle.numbers.specs.Numbers.{done, noRoom, layerSize}
 use Rattle.colour.specs.Choice.{if_then_else_}
-use Rattle.graphics.specs.Formats.{bytesOf, rasterOf}
-use Rattle.graphics.specs.Decoding.{isLarge, lacksRoom}
+use Rattle.images.specs.Formats.{bytesOf, rasterOf}
+use Rattle.images.specs.Stretching.{isLarge}
+use Rattle.graphics.specs.Decoding.{lacksRoom}
 use Rattle.graphics.specs.Layers.{layerBytes, outgrown, layersRefusal}
-use Rattle.graphics.proofs.Codes.{Small, small, layer-small, layers-large, layers-length, layers-none, layers-inner, layers-rest}
+use Rattle.images.proofs.Sides.{Small, small}
+use Rattle.graphics.proofs.Codes.{layer-small, layers-large, layers-length, layers-none, layers-inner, layers-rest}
 use borrow.Author.Needs.{needs}
 use Rattle.graphics.proofs.refusals.layers_refusal.Statement.{statement}
 use Rattle.graphics.proofs.refusals.layers_refusal.Tie as tie

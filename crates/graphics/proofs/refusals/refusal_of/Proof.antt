@@ -1,8 +1,9 @@
 -- `graphics::refusals::refusal_of` meets its contract. Assumes nothing.
 use mathlib.Core.Path.{_≡_, sym, _∙_}
 use mathlib.Core.Bool.{false}
-use Rattle.graphics.specs.Decoding.{isLarge}
-use Rattle.graphics.proofs.Codes.{small, single-large, single-length, single-rest}
+use Rattle.images.specs.Stretching.{isLarge}
+use Rattle.images.proofs.Sides.{small}
+use Rattle.graphics.proofs.Codes.{single-large, single-length, single-rest}
 use borrow.Author.Needs.{needs}
 use Rattle.graphics.proofs.refusals.refusal_of.Statement.{statement}
 use Rattle.graphics.proofs.refusals.refusal_of.Tie as tie

@@ -3,8 +3,8 @@ use mathlib.Core.Path.{_≡_, sym, _∙_}
 use mathlib.Core.Bool.{false}
 use Prim.Native.Nat.{_≤_, _<_}
 use native.Mathlib.Omega.{arith}
-use Rattle.graphics.specs.Decoding.{isLarge}
-use Rattle.graphics.proofs.Codes.{Small, small, factor-range}
+use Rattle.images.specs.Stretching.{isLarge}
+use Rattle.images.proofs.Sides.{Small, small, factor-range}
 use Rattle.job.proofs.Reasons.{image-large, image-length, image-rest}
 use borrow.Author.Needs.{needs}
 use Rattle.job.proofs.dropping.image_refusal.Statement.{statement}

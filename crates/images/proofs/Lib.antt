@@ -1,0 +1,4 @@
+pub mod Places
+mod Scaling
+pub mod Sides
+mod Unique
