@@ -36,7 +36,6 @@ fn strip(name: &str, job: &Job) {
     let bytes = job.bytes();
     let wide = 4 * job.width as usize;
     let mut buf = vec![0; wide * outcome.height as usize];
-    let mut again = buf.clone();
     let mut line = vec![0; wide];
     let mut rows = [
         Row::new("run"),
@@ -49,13 +48,17 @@ fn strip(name: &str, job: &Job) {
         let mut rust = None;
         let took = time(|| rust = Some(drawn(black_box(job))));
         rows.iter_mut().for_each(|row| row.rust.push(took));
+        // The run and the rows find the buffer alike: just cleared.
+        clear.push(time(|| black_box(&mut buf).fill(0)));
         let mut number = 0;
         rows[0].ours.push(time(|| {
             number = lent::run(black_box(&bytes), &mut buf).number;
         }));
+        let ran = (round == 0).then(|| buf.clone());
+        black_box(&mut buf).fill(0);
         rows[1].ours.push(time(|| {
             let plan = lent::translate(black_box(&bytes)).plan;
-            number |= lent::rows(&plan, 0, plan.height, &bytes, &mut again);
+            number |= lent::rows(&plan, 0, plan.height, &bytes, &mut buf);
         }));
         rows[2].ours.push(time(|| {
             let plan = lent::translate(black_box(&bytes)).plan;
@@ -63,18 +66,17 @@ fn strip(name: &str, job: &Job) {
                 black_box(lent::row(&plan, row, &bytes, &mut line));
             }
         }));
-        if round == 0 {
+        if let Some(ran) = ran {
             let rust = rust.unwrap().get_height();
             let expected = draw(job, &[]).map(|mut canvas| canvas.dots());
             assert!(
                 number == 0
                     && rust == outcome.height
-                    && expected.as_ref() == Ok(&buf)
-                    && again == buf,
+                    && expected.as_ref() == Ok(&ran)
+                    && buf == ran,
                 "{name}: the answers differ"
             );
         }
-        clear.push(time(|| black_box(&mut buf).fill(0)));
     }
     let sizes = format!("{name}, {} by {} dots", job.width, outcome.height);
     print(&sizes, rows, clear);
