@@ -22,7 +22,7 @@
  * dots to the buffer. Where a buffer is too short, the same bytes may be lent again in a longer one.
  *
  * Jobs. A job draws a whole strip: `thermal_run` draws it on a canvas; `thermal_translate` and
- * `thermal_row` give any row of it alone, without a canvas.
+ * `thermal_row` give any row of it alone, without a canvas, and `thermal_rows` some rows at once.
  */
 #ifndef THERMAL_H
 #define THERMAL_H
@@ -374,10 +374,11 @@ thermal_translated thermal_translate(const uint8_t *job, size_t job_length);
 thermal_row_answer thermal_row(thermal_plan plan, uint32_t row, const uint8_t *data,
                                size_t data_length, uint8_t *line, size_t length);
 
-/* Answers the number of `count` rows of a plan from row `first` on, without their ink: the plan is
- * judged once for all of them.
+/* Answers the number alone, for `count` rows of a plan from row `first` on: the plan is judged once
+ * for all of them, and their ink is not counted.
  * Writes the rows one after the other, 4*width*count bytes, from the start of `buf` when done, each as
- * thermal_row gives it. `data` is only read. Numbers: 14, 15 unless all rows are there, 1. */
+ * thermal_row gives it. `data` is only read. Numbers: 14, 15 if first + count is
+ * above the height, 1. */
 uint8_t thermal_rows(thermal_plan plan, uint32_t first, uint32_t count, const uint8_t *data,
                      size_t data_length, uint8_t *buf, size_t length);
 

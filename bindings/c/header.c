@@ -214,17 +214,19 @@ static void jobs(void) {
            "thermal_row");
     answer = thermal_row(plan, 3, job, sizeof job, line, 40);
     expect(answer.number == THERMAL_NO_ROW && answer.ink == 0, "thermal_row");
-    buf[0] = buf[120] = 9;
+    buf[0] = 9;
     expect(thermal_rows(plan, 1, 2, job, sizeof job, buf, 81) == THERMAL_DONE &&
-               memcmp(buf + 40, line, 40) == 0 && buf[80] == 255,
+               buf[0] == 0 && memcmp(buf + 40, line, 40) == 0 && buf[80] == 255,
            "thermal_rows");
+    buf[0] = 9;
     expect(thermal_rows(plan, 2, 2, job, sizeof job, buf, 80) == THERMAL_NO_ROW &&
-               thermal_rows(plan, 1, 2, job, sizeof job, buf, 79) == THERMAL_NO_ROOM,
+               thermal_rows(plan, 1, 2, job, sizeof job, buf, 79) == THERMAL_NO_ROOM &&
+               buf[0] == 9,
            "thermal_rows");
     plan.entries[0].start = sizeof job - 1;
     expect(thermal_row(plan, 2, job, sizeof job, line, 40).number == THERMAL_BAD_PLAN,
            "thermal_row");
-    expect(thermal_rows(plan, 1, 2, job, sizeof job, buf, 80) == THERMAL_BAD_PLAN,
+    expect(thermal_rows(plan, 1, 2, job, sizeof job, buf, 80) == THERMAL_BAD_PLAN && buf[0] == 9,
            "thermal_rows");
 }
 

@@ -76,7 +76,7 @@ pub struct Row {
 }
 
 /// A plan holds places in the job's bytes, and not the bytes. Its fields are open, and what is
-/// changed in them is looked over anew by each row: a plan that breaks the rules is refused.
+/// changed in them is looked over anew by each call: a plan that breaks the rules is refused.
 impl Plan {
     /// The plan of a job without flips.
     ///
