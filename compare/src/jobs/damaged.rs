@@ -74,7 +74,35 @@ impl PlanRow {
             _ => Ok(None),
         };
         let dots = dots.as_ref().map(|dots| dots.as_deref());
-        row_verdict(due, ours, dots.map_err(String::clone), self.lent, space)
+        let verdict = row_verdict(due, ours, dots.map_err(String::clone), self.lent, space);
+        if verdict.difference.is_some() {
+            return verdict;
+        }
+        Verdict {
+            difference: self.at_once(due, &plan, dots.unwrap_or(None), space),
+            ..verdict
+        }
+    }
+
+    /// The same row as the only one of some rows at once, over other bytes.
+    fn at_once(
+        &self,
+        due: u8,
+        plan: &lent::Plan,
+        dots: Option<&[u8]>,
+        space: &mut Space,
+    ) -> Option<String> {
+        let other: Vec<u8> = space.first(self.lent).iter().map(|byte| !byte).collect();
+        space.write(&other);
+        let ours = lent::rows(plan, self.row, 1, &self.data, space.lend(self.lent));
+        if let Some(dots) = dots {
+            space.expect(dots);
+        }
+        let bytes = space.difference("the rows", self.lent);
+        match ours == due {
+            true => bytes,
+            false => Some(format!("{due} expected, {ours} given by rows at once")),
+        }
     }
 }
 
