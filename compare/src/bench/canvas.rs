@@ -100,6 +100,7 @@ fn drawing(random: &mut Random) -> Vec<Work> {
         rectangle("rectangle, multiplied, translucent", 128, true),
         image("image, opaque", |_| 255, false),
         image("image, translucent", |a| a, false),
+        image("image of bits, blended", bit, false),
         image("image of bits, multiplied", bit, true),
         image("image, multiplied, translucent", |a| a, true),
         Work::new("flip", (WIDTH, HEIGHT), Operation::FlipPixels(area)),
