@@ -10,11 +10,11 @@ use Rattle.plan.specs.declared.Plan.{Plan}
 use Rattle.plan.specs.declared.Translated.{Translated}
 use Rattle.plan.specs.Plan.{planOf, translated}
 use Rattle.rows.specs.declared.RowAnswer.{RowAnswer}
-use Rattle.rows.specs.Rows.{planWritten, planGiven}
+use Rattle.rows.specs.Rows.{planWritten, planGiven, planRowsRefusal, planRowsWritten}
 use Rattle.runs.specs.declared.Ran.{Ran}
 use Rattle.runs.specs.Run.{ran, ranWith, runCanvas, runOn}
-use Rattle.agreement.specs.Agreement.{Run, Translate, Row, Plannable, Same, Demand3}
-use Rattle.agreement.proofs.Rows.{translated-is, ran-is, same-row}
+use Rattle.agreement.specs.Agreement.{Run, Translate, Row, Rows, Plannable, Same, Demand3}
+use Rattle.agreement.proofs.Rows.{translated-is, ran-is, same-row, same-rows}
 
 -- ---- what the contracts say of the calls
 
@@ -26,6 +26,10 @@ translate-is s t c = rw (← c .given) (c .kept)
 
 row-is : (p : Plan) (j : ℕ) (s l : List ℕ) (a : RowAnswer) (m : List ℕ) → Row p j s l a m → (a ≡ planGiven s p j l) × (m ≡ planWritten s p j l)
 row-is p j s l a m c = rw (← c .given .0, ← c .given .1, ← c .given .2, ← c .given .3, ← c .left) (c .kept)
+
+rows-are : (p : Plan) (first n : ℕ) (s l : List ℕ) (a : ℕ) (m : List ℕ) → Rows p first n s l a m
+    → (a ≡ planRowsRefusal p first n (length s) (length l)) × (m ≡ planRowsWritten s p first n l)
+rows-are p first n s l a m c = rw (← c .given .0, ← c .given .1, ← c .given .2, ← c .given .3, ← c .given .4, ← c .left) (c .kept)
 
 -- ---- the run's answer and the translation's, of a job that can be planned
 
@@ -42,6 +46,7 @@ module _ (s l : List ℕ) (g : Plannable s) (room : 4 * (paperWidth s * jobHeigh
         count = refl;
         dropped = refl;
         rows = λ j k m a h r c. let e = row-is (planOf s) j s k a m c in rw (e .0, e .1) (same-row s g l k j h room r);
+        at-once = λ first n k m a h r c. let e = rows-are (planOf s) first n s k a m c in rw (e .0, e .1) (same-rows s g l k first n h room r);
       }
 
 pub demand-3 : Demand3

@@ -13,14 +13,15 @@ use Rattle.job.specs.Commands.{paperWidth, paperColor, commands}
 use Rattle.job.specs.Dropping.{mostCommands, numberOf, jobRefusal, jobHeight, keptOf, jobDropped, padded}
 use Rattle.job.proofs.Walk.{good}
 use Rattle.plan.specs.Plan.{entriesOf, translateRefusal, planOf, translated}
-use Rattle.rows.specs.Rows.{ink, rowWritten, rowGiven, used, planRefusal, planWritten, planGiven}
-use Rattle.rows.proofs.Rules.{given-row, firsts-all}
+use Rattle.rows.specs.Rows.{ink, rowWritten, rowGiven, used, planRefusal, planWritten, planGiven, planRowsRefusal, planRowsWritten}
+use Rattle.rows.proofs.Rules.{given-row, asked-rows, firsts-all}
+use Rattle.rows.proofs.Lines.{rows-dot}
 use Rattle.rows.proofs.Answers.{ink-dots, row-dot}
 use Rattle.refusals.specs.Refusals.{first, roomRefusal}
 use Rattle.thermal_image.specs.Canvas.{written}
 use Rattle.runs.specs.Run.{runRefusal, runPicture, runCanvas, ranWith, ran, runOn}
 use Rattle.runs.proofs.Pictures.{shown-dot}
-use Rattle.agreement.specs.Agreement.{Plannable, SameRow}
+use Rattle.agreement.specs.Agreement.{Plannable, SameRow, SameRows}
 use Rattle.agreement.proofs.Pictures.{dots-agree}
 use Rattle.agreement.proofs.Rules.{plan-rules}
 
@@ -65,11 +66,34 @@ module _ (s : List ℕ) (g : Plannable s) where
       rw used-all
       (given-row (paperWidth s) (jobHeight s) (length s) _ _ j n (record { good = plan-rules s (g .bytes) (good s job-done); below = h; room = omega arith }))
 
-  module _ (buf line : List ℕ) (j : ℕ) (h : j < jobHeight s) (room : 4 * (paperWidth s * jobHeight s) ≤ length buf) (r : 4 * paperWidth s ≤ length line) where
-    run-dot : (i : ℕ) → i < paperWidth s → dotAt (runOn s buf) (j * paperWidth s + i) ≡ runPicture s i j
-    unfolding runOn written
-    run-dot i a = rw (run-done (length buf) room) (shown-dot (paperWidth s) (jobHeight s) (runPicture s) buf (omega arith) i j a h)
+  -- and so are some rows at once
+  rows-done : (first n room : ℕ) → first + n ≤ jobHeight s → 4 * (n * paperWidth s) ≤ room → planRowsRefusal (planOf s) first n (length s) room ≡ done
+  unfolding planOf
+  rows-done first n room h r =
+      rw used-all
+      (asked-rows (paperWidth s) (jobHeight s) (length s) _ _ first n room (record { good = plan-rules s (g .bytes) (good s job-done); within = h; room = omega arith }))
 
+  run-dot : (buf : List ℕ) (i j : ℕ) → i < paperWidth s → j < jobHeight s → 4 * (paperWidth s * jobHeight s) ≤ length buf
+      → dotAt (runOn s buf) (j * paperWidth s + i) ≡ runPicture s i j
+  unfolding runOn written
+  run-dot buf i j a h room = rw (run-done (length buf) room) (shown-dot (paperWidth s) (jobHeight s) (runPicture s) buf (omega arith) i j a h)
+
+  plan-rows-dot : (lines : List ℕ) (first n : ℕ) → first + n ≤ jobHeight s → 4 * (n * paperWidth s) ≤ length lines
+      → (i j : ℕ) → i < paperWidth s → j < n → dotAt (planRowsWritten s (planOf s) first n lines) (j * paperWidth s + i) ≡ runPicture s i (first + j)
+  unfolding planRowsWritten planOf
+  plan-rows-dot lines first n h r i j a b =
+      rw (rows-done first n (length lines) h r)
+      (rows-dot s (paperWidth s) (paperColor s) _ first n lines i j a b (omega arith) ∙ rw used-all (dots-agree s i (first + j) a (g .plain)))
+
+  pub same-rows : (buf lines : List ℕ) (first n : ℕ) → first + n ≤ jobHeight s → 4 * (paperWidth s * jobHeight s) ≤ length buf → 4 * (n * paperWidth s) ≤ length lines
+      → SameRows (paperWidth s) first n (runOn s buf) (planRowsRefusal (planOf s) first n (length s) (length lines)) (planRowsWritten s (planOf s) first n lines)
+  same-rows buf lines first n h room r =
+      record {
+        given = rows-done first n (length lines) h r;
+        dot = λ i j a b. plan-rows-dot lines first n h r i j a b ∙ sym (run-dot buf i (first + j) a (omega arith) room);
+      }
+
+  module _ (buf line : List ℕ) (j : ℕ) (h : j < jobHeight s) (room : 4 * (paperWidth s * jobHeight s) ≤ length buf) (r : 4 * paperWidth s ≤ length line) where
     plan-dot : (i : ℕ) → i < paperWidth s → dotAt (planWritten s (planOf s) j line) i ≡ runPicture s i j
     unfolding rowWritten planOf
     plan-dot i a =
@@ -77,7 +101,7 @@ module _ (s : List ℕ) (g : Plannable s) where
         (row-dot s (paperWidth s) (paperColor s) _ j line i a (omega arith) ∙ rw used-all (dots-agree s i j a (g .plain)))
 
     same-dot : (i : ℕ) → i < paperWidth s → dotAt (planWritten s (planOf s) j line) i ≡ dotAt (runOn s buf) (j * paperWidth s + i)
-    same-dot i a = plan-dot i a ∙ sym (run-dot i a)
+    same-dot i a = plan-dot i a ∙ sym (run-dot buf i j a h room)
 
     -- the ink is that of what was written
     ink-of : planGiven s (planOf s) j line .ink ≡ ink (paperWidth s) (planWritten s (planOf s) j line)

@@ -1,4 +1,4 @@
--- Demand 3: running a job and planning it agree. What is claimed, about any answers that the contracts of `run`, `translate` and `row` allow.
+-- Demand 3: running a job and planning it agree. What is claimed, about any answers that the contracts of `run`, `translate`, `row` and `rows` allow.
 use Prim.Native.Nat.{ℕ, _+_, _*_, _≤_, _<_}
 use mathlib.Core.Path.{_≡_}
 use mathlib.Core.List.{List}
@@ -16,6 +16,7 @@ use Rattle.plan.proofs.translate.Reads as translate
 use Rattle.rows.specs.declared.RowAnswer.{RowAnswer}
 use Rattle.rows.specs.Rows.{ink}
 use Rattle.rows.proofs.row.Reads as row
+use Rattle.rows.proofs.rows.Reads as rows
 use Rattle.runs.specs.declared.Ran.{Ran}
 use Rattle.runs.proofs.run.Reads as run
 use Rattle.job.specs.Records.{Bytes}
@@ -44,6 +45,13 @@ abbrev pub Row : Plan → ℕ → List ℕ → List ℕ → RowAnswer → List �
 Row plan j s before r after =
     Call row.Post (λ k a. (a .0 ≡ plan) × (a .1 .0 ≡ j) × (now (a .1 .1 .0) ≡ s) × (now (a .1 .1 .1 .0) ≡ before)) (λ k e. now (e .1 .1 .1 .0) ≡ after) r
 
+-- let r = rows(plan, first, n, s, buf), with the bytes of buf before and after
+abbrev pub Rows : Plan → ℕ → ℕ → List ℕ → List ℕ → ℕ → List ℕ → Type 0
+Rows plan first n s before r after =
+    Call rows.Post
+    (λ k a. (a .0 ≡ plan) × (a .1 .0 ≡ first) × (a .1 .1 .0 ≡ n) × (now (a .1 .1 .1 .0) ≡ s) × (now (a .1 .1 .1 .1 .0) ≡ before))
+    (λ k e. now (e .1 .1 .1 .1 .0) ≡ after) r
+
 -- ---- what is claimed
 
 -- a sound job of at most 64 commands without flips
@@ -61,6 +69,12 @@ pub record SameRow (W j : ℕ) (canvas : List ℕ) (r : RowAnswer) (line : List 
   -- the count over the canvas's row
   pub ink : r .ink ≡ ink W (drop (j * W * 4) canvas)
 
+-- what `rows` answers and leaves in its buffer, beside n rows of that canvas from row `first` on
+pub record SameRows (W first n : ℕ) (canvas : List ℕ) (number : ℕ) (lines : List ℕ) : Type 0 where
+  pub given : number ≡ done
+  -- the four bytes of column i of the j-th of them
+  pub dot : (i j : ℕ) → i < W → j < n → dotAt lines (j * W + i) ≡ dotAt canvas ((first + j) * W + i)
+
 -- what `run` answers and leaves in its buffer, beside what `translate` answers
 pub record Same (s : List ℕ) (r : Ran) (canvas : List ℕ) (t : Translated) : Type 0 where
   pub run-done : r .number ≡ done
@@ -73,6 +87,9 @@ pub record Same (s : List ℕ) (r : Ran) (canvas : List ℕ) (t : Translated) : 
   -- each row alone, so that rows may be asked for in any order
   pub rows : (j : ℕ) (before line : List ℕ) (a : RowAnswer) → j < t .plan .height → 4 * t .plan .width ≤ length before
       → Row (t .plan) j s before a line → SameRow (t .plan .width) j canvas a line
+  -- some rows at once
+  pub at-once : (first n : ℕ) (before lines : List ℕ) (a : ℕ) → first + n ≤ t .plan .height → 4 * (n * t .plan .width) ≤ length before
+      → Rows (t .plan) first n s before a lines → SameRows (t .plan .width) first n canvas a lines
 
 -- for every such job and every canvas buffer with room for the plan's height
 abbrev pub Demand3 : Type 0

@@ -120,6 +120,10 @@ module _ (W H n : ℕ) where
     pub rows-asked : (first m room : ℕ) → rowsRefusal (goodPlan W H n count es) W H first m room ≡ done → Asked first m room
     rows-asked first m room e = let p = rows-done (goodPlan W H n count es) W H first m room e in record { good = plan-good (p .0); within = p .1; room = p .2 }
 
+    pub asked-rows : (first m room : ℕ) → Asked first m room → rowsRefusal (goodPlan W H n count es) W H first m room ≡ done
+    unfolding rowsRefusal
+    asked-rows first m room g = rw (good-plan (g .good), le-ltb H (first + m) (g .within), le-ltb room (4 * (m * W)) (omega (arith, g .room)))
+
     -- a row that is not refused
     pub record Given (row size : ℕ) : Type 0 where
       pub good : Good
