@@ -5,39 +5,7 @@ ghost use lib.ListN.{length};
 ghost use Rattle.numbers.specs.Numbers.{limit};
 ghost use Rattle.dots.specs.Dots.{change, within};
 ghost use Rattle.areas.specs.Areas.{Fits, areaOn, pixelDrawn};
-ghost use Rattle.areas.specs.Rows.{pixelsOn};
-use dots::draw_dot;
-use dots::draw_run;
-use dots::get_dot;
-use dots::store_dot;
-
-// Each dot is a run of one, which is soon done where there is nothing to mix.
-fn draw_each(buf: &mut [u8], at: usize, count: usize, pixels: &[u8], from: usize, multiply: bool)
-    requires { ⌜ ((at + count) * 4 ≤ length (now buf)) × ((from + count) * 4 ≤ length (now pixels)) ⌝ }
-    ensures { λ _. ⌜ now (buf .exit) ≡ pixelsOn multiply (now (pixels .entry)) from at count (now (buf .entry)) ⌝ }
-{
-    let mut i = 0;
-    while i < count {
-        let p = get_dot(pixels, from + i);
-        draw_run(buf, at + i, 1, multiply, p);
-        i += 1;
-    }
-}
-
-// Every dot is read, mixed and written, which is soon done where most dots have to be mixed.
-fn draw_alike(buf: &mut [u8], at: usize, count: usize, pixels: &[u8], from: usize, multiply: bool)
-    requires { ⌜ ((at + count) * 4 ≤ length (now buf)) × ((from + count) * 4 ≤ length (now pixels)) ⌝ }
-    ensures { λ _. ⌜ now (buf .exit) ≡ pixelsOn multiply (now (pixels .entry)) from at count (now (buf .entry)) ⌝ }
-{
-    let mut i = 0;
-    while i < count {
-        let p = get_dot(pixels, from + i);
-        let s = get_dot(buf, at + i);
-        let d = draw_dot(s, multiply, p);
-        store_dot(buf, at + i, d);
-        i += 1;
-    }
-}
+use pixels::put_run;
 
 fn smaller(a: usize, b: usize) -> usize
     ensures { λ r. ⌜ r ≡ min a b ⌝ }
@@ -48,9 +16,7 @@ fn smaller(a: usize, b: usize) -> usize
     b
 }
 
-// A row for which there may be fewer pixels than dots, or none. Multiplied pixels go alike, at every
-// alpha. Of blended ones the first tells which way is likely to be the sooner done, and either does
-// the same.
+// A row for which there may be fewer pixels than dots, or none.
 fn put_row(
     buf: &mut [u8],
     at: usize,
@@ -67,15 +33,7 @@ fn put_row(
         return;
     }
     let count = smaller(w, n - from);
-    if multiply {
-        draw_alike(buf, at, count, pixels, from, multiply);
-        return;
-    }
-    let first = get_dot(pixels, from);
-    match first.a {
-        1..=254 => draw_alike(buf, at, count, pixels, from, multiply),
-        _ => draw_each(buf, at, count, pixels, from, multiply),
-    }
+    put_run(buf, at, count, pixels, from, multiply);
 }
 
 pub fn put_area(

@@ -2,6 +2,7 @@
 use denote.Ref.{now}
 use Rattle.colour.proofs.OneAnswer.{OneAnswer, OneContent, both}
 use Rattle.dots.proofs.dot.get_dot.Reads as get-dot
+use Rattle.dots.proofs.dot.load_dot.Reads as load-dot
 use Rattle.dots.proofs.dot.set_dot.Reads as set-dot
 use Rattle.dots.proofs.dot.store_dot.Reads as store-dot
 use Rattle.dots.proofs.fill.fill_run.Reads as fill-run
@@ -18,6 +19,9 @@ use Rattle.dots.proofs.multiply.multiply_run.Reads as multiply-run
 
 get-dot-one : OneAnswer get-dot.Post
 get-dot-one k a x y e f p q = both p q
+
+load-dot-one : OneAnswer load-dot.Post
+load-dot-one k a x y e f p q = both p q
 
 set-dot-one : OneContent set-dot.Post (λ k e. now (e .0))
 set-dot-one k a x y e f p q = both p q

@@ -7,6 +7,7 @@ mod mix;
 mod multiply;
 
 pub use dot::get_dot;
+pub use dot::load_dot;
 pub use dot::set_dot;
 pub use dot::store_dot;
 pub use draw::TABLE_DOTS;

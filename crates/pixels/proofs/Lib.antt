@@ -1,0 +1,4 @@
+mod Plain
+mod Runs
+mod Blended
+mod Unique

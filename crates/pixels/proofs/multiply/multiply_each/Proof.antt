@@ -1,0 +1,73 @@
+-- `pixels::multiply::multiply_each` meets its contract. Assumes nothing.
+use native.Mathlib.Omega.{arith}
+use mathlib.Core.Bool.{true}
+use Prim.Native.Nat.{_-_}
+use Rattle.pixels.proofs.Runs.{Drawn, drawn-start, drawn-next, drawn-end}
+use borrow.Author.Needs.{needs}
+use Rattle.pixels.proofs.multiply.multiply_each.Statement.{statement}
+use Rattle.pixels.proofs.multiply.multiply_each.Tie as tie
+
+abbrev Inv-loop : tie.InvT-loop
+Inv-loop buf₀ at count pixels from i₀ buf i = Drawn true pixels from at count buf₀ i buf
+
+abbrev μ-loop : tie.MeasureT-loop
+μ-loop buf₀ at count pixels from i₀ buf i = count - i
+
+loop-holds : tie.Need-loop-holds Inv-loop μ-loop
+loop-holds c = drawn-start _ _ _ _ _ _
+
+add-load-dot : tie.Need-add-load-dot Inv-loop μ-loop
+add-load-dot c = omega arith
+
+load-dot-requires : tie.Need-load-dot-requires Inv-loop μ-loop
+load-dot-requires c κs = omega arith
+
+add-load-dot-2 : tie.Need-add-load-dot-2 Inv-loop μ-loop
+add-load-dot-2 c = omega arith
+
+load-dot-requires-2 : tie.Need-load-dot-requires-2 Inv-loop μ-loop
+load-dot-requires-2 c κs = omega arith
+
+draw-dot-requires : tie.Need-draw-dot-requires Inv-loop μ-loop
+draw-dot-requires c κs = search needs
+
+add-store-dot : tie.Need-add-store-dot Inv-loop μ-loop
+add-store-dot c = omega arith
+
+store-dot-requires : tie.Need-store-dot-requires Inv-loop μ-loop
+store-dot-requires c κs = omega arith
+
+add-i : tie.Need-add-i Inv-loop μ-loop
+add-i c = omega arith
+
+loop-less : tie.Need-loop-less Inv-loop μ-loop
+loop-less c = omega arith
+
+loop-again : tie.Need-loop-again Inv-loop μ-loop
+loop-again c = drawn-next _ _ _ _ _ _ (c .before .before .before .before .before .before .before .before .before .loop .inv) (c .before .before .before .before .before .before .before .before .loop-test .taken) (c .before .before .before .before .before .before .before .before .before .before .before .before .pre .0) (c .before .before .before .before .before .before .before .load-dot .ensures) (c .before .before .before .before .before .load-dot2 .ensures) (c .before .before .before .before .draw-dot .ensures) (c .before .before .store-dot .ensures)
+
+same-length : tie.Need-same-length Inv-loop μ-loop
+same-length c = omega arith
+
+returns : tie.Need-returns Inv-loop μ-loop
+returns c = drawn-end _ _ _ _ _ _ (c .before .loop .inv) (c .loop-test .left)
+
+pub multiply-each-spec : {M : Type 1} → statement M
+multiply-each-spec =
+    tie.close
+    (tie.spec
+    Inv-loop
+    μ-loop
+    loop-holds
+    add-load-dot
+    load-dot-requires
+    add-load-dot-2
+    load-dot-requires-2
+    draw-dot-requires
+    add-store-dot
+    store-dot-requires
+    add-i
+    loop-less
+    loop-again
+    same-length
+    returns)

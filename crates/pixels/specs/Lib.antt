@@ -1,0 +1,3 @@
+-- What the contracts of pixels say.
+pub mod Pixels
+pub mod Steps
