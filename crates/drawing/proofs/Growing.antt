@@ -1,5 +1,5 @@
 -- Growing, then drawing: what puts, rectangles and flips share. The canvas t with the buffer l has grown to `rows`, with the answer a and the buffer m. Assumes nothing.
-use mathlib.Core.Path.{_≡_, refl, _∙_}
+use mathlib.Core.Path.{_≡_, _∙_}
 use mathlib.Core.List.{List}
 use Prim.Native.Nat.{ℕ, _+_, _*_, _≤_, _<_, max}
 use native.Mathlib.Omega.{arith}

@@ -5,15 +5,13 @@ use mathlib.Core.List.{List}
 use Prim.Native.Nat.{ℕ, _+_, _-_, _*_, _/_, _%_, _^_, _≤_, _<_}
 use native.Mathlib.Nat.{div-lt-iff-lt-mul, mul-le-mul-right, mul-comm, add-mul, add-assoc}
 use native.Mathlib.Omega.{arith}
-use lib.ListN.{length, drop}
+use lib.ListN.{drop}
 use lib.Seq.{getD-drop}
 use borrow.Author.Tests.{leb-true, eqb-true}
-use Rattle.colour.specs.declared.RGBA.{RGBA}
 use Rattle.colour.specs.Colour.{withAlpha}
 use Rattle.dots.specs.Dots.{dotAt, change, within, drawn}
 use Rattle.dots.proofs.Laws.{change-by}
 use Rattle.bits.specs.Bits.{rowBytes, bitAlpha, Shown, bitsOn, pixelDrawn}
-use Rattle.images.specs.declared.formats.Format.the-variants.{Bits}
 use Rattle.images.specs.Formats.{alphaOf, bytesOf}
 use Rattle.images.specs.Stretching.{pixelOf}
 use Rattle.entries.specs.declared.Entry.{Entry}

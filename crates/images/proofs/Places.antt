@@ -1,5 +1,5 @@
 -- Where in the data a source dot is told of. Assumes nothing.
-use mathlib.Core.Path.{_≡_, refl, subst}
+use mathlib.Core.Path.{_≡_, subst}
 use Prim.Native.Nat.{ℕ, _+_, _*_, _/_, _≤_, _<_}
 use native.Mathlib.Nat.{mul-le-mul-right, add-mul, mul-comm}
 use native.Mathlib.Numerals.{add-one-le}

@@ -1,12 +1,12 @@
 -- A picture moved in pieces, the last first: those from dot i on are moved. It has a start, a next and an end. Assumes nothing.
 use mathlib.Core.Path.{_≡_, refl, ap, _∙_}
 use mathlib.Core.List.{List}
-use Prim.Native.Nat.{ℕ, _+_, _-_, _*_, _≤_, _<_}
+use Prim.Native.Nat.{ℕ, _+_, _-_, _≤_}
 use native.Mathlib.Omega.{arith}
 use lib.ListN.{length}
 use Rattle.colour.specs.declared.RGBA.{RGBA}
 use Rattle.dots.specs.Dots.{dotAt, change, within}
-use Rattle.dots.proofs.Laws.{length-change, change-kept, change-by, run-none, within-low, within-true}
+use Rattle.dots.proofs.Laws.{length-change, change-kept, run-none, within-low}
 use Rattle.moves.proofs.Rows.{run-back}
 
 module _ (n by : ℕ) (l : List ℕ) where

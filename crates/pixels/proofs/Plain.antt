@@ -1,14 +1,13 @@
 -- Plain pixels: how they are told, and that they leave their dots or cover them. Assumes nothing.
-use mathlib.Core.Path.{_≡_, refl, sym, ap, _∙_}
+use mathlib.Core.Path.{_≡_, refl, sym, _∙_}
 use mathlib.Core.Logic.{_⊎_, inl, inr, ⊎-elim}
 use mathlib.Core.List.{List}
 use mathlib.Core.Bool.{Bool, true, false, _&&_, and-true, and-false, or-true, or-false, true≢false}
-use Prim.Native.Nat.{ℕ, zero, suc, _+_, _≤_, _<_}
+use Prim.Native.Nat.{ℕ, suc, _+_, _<_}
 use native.Mathlib.Numerals.{add-one}
 use native.Mathlib.Omega.{arith}
 use borrow.Author.Tests.{eq-eqb, ne-eqb, eqb-true}
 use Rattle.colour.specs.declared.RGBA.{RGBA}
-use Rattle.colour.specs.Colour.{rgba}
 use Rattle.colour.proofs.Laws.{rgba-eq, blended-none, blended-full}
 use Rattle.dots.specs.Dots.{dotAt, drawn}
 use Rattle.dots.proofs.Laws.{below}

@@ -1,5 +1,5 @@
 -- The contract of each step that drawing calls leaves one answer. Assumes nothing.
-use mathlib.Core.Path.{_≡_, refl}
+use mathlib.Core.Path.{_≡_}
 use Prim.Native.Nat.{ℕ}
 use Rattle.colour.proofs.OneAnswer.{OneAnswer, both}
 use Rattle.places.specs.declared.sizes.Crop.{Crop}

@@ -1,18 +1,17 @@
 -- What the functions of a translation answer. Assumes nothing.
-use Prim.Native.Nat.{ℕ, suc, _+_, _*_, _≤_, max}
-use mathlib.Core.Path.{_≡_, refl, ap, sym, _∙_}
+use Prim.Native.Nat.{ℕ, _+_, _*_, _≤_, max}
+use mathlib.Core.Path.{_≡_, refl, sym, _∙_}
 use mathlib.Core.List.{List, []}
-use mathlib.Core.Bool.{Bool, true, false}
+use mathlib.Core.Bool.{true, false}
 use native.Mathlib.Numerals.{add-one}
 use borrow.Author.Tests.{eq-eqb, ne-eqb}
 use lib.ListN.{getD, set}
 use Rattle.numbers.specs.Numbers.{done, notTranslated}
-use Rattle.colour.specs.Choice.{if_then_else_}
 use Rattle.colour.specs.Colour.{blank}
 use Rattle.colour.specs.declared.RGBA.{RGBA}
 use Rattle.images.specs.Stretching.{factor}
 use Rattle.job.specs.declared.commands.Command.{Command}
-use Rattle.job.specs.declared.commands.Command.the-variants.{Rectangle, Image, Margin, Flip}
+use Rattle.job.specs.declared.commands.Command.the-variants.{Rectangle, Image, Flip}
 use Rattle.job.specs.Commands.{commands}
 use Rattle.job.specs.Dropping.{refusal, jobRefusal}
 use Rattle.entries.specs.declared.Entry.{Entry}

@@ -1,5 +1,5 @@
 -- The loops of a translation: over the commands, and the one that looks for a flip. Assumes nothing.
-use Prim.Native.Nat.{ℕ, suc, _+_, _*_, _≤_, _<_, max}
+use Prim.Native.Nat.{ℕ, _+_, _<_}
 use mathlib.Core.Path.{_≡_, refl, ap, sym, _∙_}
 use mathlib.Core.Logic.{_⊎_, inl, inr, ⊎-elim}
 use mathlib.Core.List.{List, [], _∷_, _++_}
@@ -8,8 +8,6 @@ use native.Mathlib.Omega.{arith}
 use borrow.Author.Tests.{eqb-true, eqb-false, eq-eqb, ne-eqb}
 use lib.Dec.{eqb}
 use lib.ListN.{length}
-use Rattle.numbers.specs.Numbers.{limit, done}
-use Rattle.colour.specs.Choice.{if_then_else_}
 use Rattle.colour.specs.declared.RGBA.{RGBA}
 use Rattle.images.specs.Stretching.{factor}
 use Rattle.job.specs.declared.records.Rec.the-variants.{Record, Bad, End}
@@ -18,7 +16,7 @@ use Rattle.job.specs.declared.commands.Command.{Command}
 use Rattle.job.specs.declared.commands.Command.the-variants.{Rectangle, Image, Margin, Flip}
 use Rattle.job.specs.Records.{recordAt}
 use Rattle.job.specs.Commands.{rectangleKind, imageKind, marginKind, flipKind, flipSize, soundCommand, commandsStart, paperWidth, paperColor, commandAt, commands}
-use Rattle.job.specs.Dropping.{mostCommands, refusal, grown, kept, jobHeight, jobDropped, keptOf, padded}
+use Rattle.job.specs.Dropping.{refusal, grown, kept, padded}
 use Rattle.job.proofs.Soundness.{and-both}
 use Rattle.job.proofs.Walk.{rest, rest-record, rest-end, Good, Left, left-start, left-sound, left-next, left-bad, Looked, looked-start, looked-few, looked-kept, looked-dropped, looked-end}
 use Rattle.entries.specs.declared.Entry.{Entry}

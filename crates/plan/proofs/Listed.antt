@@ -1,20 +1,17 @@
 -- The entries of the commands kept so far, one command more; and lists in a plan's record. Assumes nothing.
-use Prim.Native.Nat.{ℕ, zero, suc, _+_, _*_, _-_, _≤_, _<_, max}
+use Prim.Native.Nat.{ℕ, zero, suc, _+_, _-_, _≤_, _<_, max}
 use mathlib.Core.Path.{_≡_, refl, ap, sym, _∙_}
 use mathlib.Core.List.{List, [], _∷_, _++_}
 use native.Mathlib.Nat.{add-assoc, add-zero, le-of-suc-le-suc, not-suc-le-zero}
 use native.Mathlib.Omega.{arith}
-use lib.ListN.{length, getD, set, replicate, length-append}
-use lib.Seq.{set-append-seam, append-snoc}
+use lib.ListN.{length, getD, set, length-append}
 use Rattle.colour.specs.declared.RGBA.{RGBA}
-use Rattle.images.specs.Stretching.{factor}
 use Rattle.job.specs.declared.dropping.Dropped.{Dropped}
 use Rattle.job.specs.declared.commands.Command.{Command}
 use Rattle.job.specs.declared.commands.Command.the-variants.{Rectangle, Image, Margin, Flip}
 use Rattle.job.specs.Dropping.{noDropped, padded}
 use Rattle.job.proofs.Folds.{padded-more}
 use Rattle.entries.specs.declared.Entry.{Entry}
-use Rattle.plan.specs.declared.Plan.{Plan}
 use Rattle.plan.specs.Plan.{lower, margins, entriesOf, noEntry, planWith}
 use Rattle.plan.specs.Steps.{lowered, pushed, shifted, leftOut}
 

@@ -5,7 +5,7 @@ ghost use mathlib.Core.Bool.{true};
 ghost use Prim.Native.Nat.{_+_, _*_, _≤_, max};
 ghost use lib.ListN.{length};
 ghost use Rattle.numbers.specs.Numbers.{limit, done};
-ghost use Rattle.job.specs.Commands.{paperWidth, paperColor};
+ghost use Rattle.job.specs.Commands.{paperWidth};
 ghost use Rattle.job.specs.Dropping.{jobRefusal, jobHeight, next};
 ghost use Rattle.job.proofs.Soundness.{Held};
 ghost use Rattle.entries.specs.Entries.{goodEntry};

@@ -1,5 +1,5 @@
 -- What an entry's definitions come to, refused and done. `number` is the number that the code worked out, k the one that 01 gives. Assumes nothing.
-use mathlib.Core.Path.{_≡_, refl, ap, _∙_}
+use mathlib.Core.Path.{_≡_, ap, _∙_}
 use mathlib.Core.List.{List}
 use Prim.Native.Nat.{ℕ, _+_, _-_, _*_, _≤_, max}
 use native.Mathlib.Nat.{mul-le-mul-left}

@@ -10,11 +10,6 @@ use Rattle.entries.proofs.Drawing.{Rules, entry-rules, entry-none, entr
 use borrow.Author.Needs.{needs}
 use Rattle.entries.proofs.draw_entry.Statement.{statement}
 use Rattle.entries.proofs.draw_entry.Tie as tie
-use Rattle.entries.proofs.draw_entry.Reads as reads
-use Rattle.entries.proofs.draw_entry.Lts as lts
-use Rattle.entries.proofs.draw_part.Reads as draw-part-reads
-use Rattle.entries.proofs.larger.Reads as larger-reads
-use Rattle.entries.proofs.smaller.Reads as smaller-reads
 
 rules : (c : tie.Start) → Rules (c .args .wide) limit (length (now (c .args .«data»))) (c .args .e)
 rules c = entry-rules _ _ _ _ (c .pre .1)

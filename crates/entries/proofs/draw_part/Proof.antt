@@ -1,13 +1,8 @@
 -- `entries::draw_part` meets its contract. Assumes nothing.
 use native.Mathlib.Omega.{arith}
 use Rattle.entries.proofs.Drawing.{image-kind, own-rectangle, own-image}
-use borrow.Author.Needs.{needs}
 use Rattle.entries.proofs.draw_part.Statement.{statement}
 use Rattle.entries.proofs.draw_part.Tie as tie
-use Rattle.entries.proofs.draw_part.Reads as reads
-use Rattle.entries.proofs.draw_part.Lts as lts
-use Rattle.areas.proofs.draw_area.Reads as draw-area-reads
-use Rattle.entries.proofs.image.image_rows.Reads as image-rows-reads
 
 cast-x : tie.Need-cast-x
 cast-x c = omega (arith, c .before .before .before .before .before .before .pre .2, c .before .before .before .before .before .before .pre .3 .across)

@@ -3,10 +3,6 @@ use Rattle.listing.proofs.Jobs.{first-refused, first-paper}
 use borrow.Author.Needs.{needs}
 use Rattle.listing.proofs.first_line.Statement.{statement}
 use Rattle.listing.proofs.first_line.Tie as tie
-use Rattle.listing.proofs.first_line.Reads as reads
-use Rattle.listing.proofs.first_line.Lts as lts
-use Rattle.listing.proofs.paper_line.Reads as paper-line-reads
-use Rattle.listing.proofs.refused_line.Reads as refused-line-reads
 
 refused-line-requires : tie.Need-refused-line-requires
 refused-line-requires c κs = search needs

@@ -3,9 +3,6 @@ use Rattle.listing.proofs.Jobs.{listed-long, listed-short}
 use borrow.Author.Needs.{needs}
 use Rattle.listing.proofs.list_job.Statement.{statement}
 use Rattle.listing.proofs.list_job.Tie as tie
-use Rattle.listing.proofs.list_job.Reads as reads
-use Rattle.listing.proofs.list_job.Lts as lts
-use Rattle.plan.proofs.translate.Reads as translate-reads
 
 slice-aggregate-translate : tie.Need-slice-aggregate-translate
 slice-aggregate-translate c = search needs

@@ -1,14 +1,9 @@
 -- `listing::refused_line` meets its contract. Assumes nothing.
-use mathlib.Core.List.{_++_}
 use Rattle.listing.specs.Listing.{ascii, part, refusedLine}
-use Rattle.listing.proofs.Lines.{Begun, begun-none, begun-more, begun-same, line-refused, line-put, refused-size, refused-parts}
+use Rattle.listing.proofs.Lines.{Begun, begun-none, begun-more, line-refused, line-put, refused-size, refused-parts}
 use borrow.Author.Needs.{needs}
 use Rattle.listing.proofs.refused_line.Statement.{statement}
 use Rattle.listing.proofs.refused_line.Tie as tie
-use Rattle.listing.proofs.refused_line.Reads as reads
-use Rattle.listing.proofs.refused_line.Lts as lts
-use Rattle.listing.proofs.writing.digits_of.Reads as digits-of-reads
-use Rattle.listing.proofs.writing.put_part.Reads as put-part-reads
 
 begun : (c : tie.After-slice-known2) → let a = c .before .before .before .before .before .before .before .before .args in Begun (part "refused " (a .number)) (a .out .now) (c .before .before .put-part .last .1 .1 .1 .0) (c .before .before .put-part .result)
 unfolding part ascii

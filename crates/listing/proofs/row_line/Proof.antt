@@ -5,10 +5,6 @@ use Rattle.listing.proofs.Lines.{Begun, begun-none, begun-more, begun-s
 use borrow.Author.Needs.{needs}
 use Rattle.listing.proofs.row_line.Statement.{statement}
 use Rattle.listing.proofs.row_line.Tie as tie
-use Rattle.listing.proofs.row_line.Reads as reads
-use Rattle.listing.proofs.row_line.Lts as lts
-use Rattle.listing.proofs.writing.digits_of.Reads as digits-of-reads
-use Rattle.listing.proofs.writing.put_part.Reads as put-part-reads
 
 begun : (c : tie.After-slice-known3) → let a = c .before .before .before .before .before .before .before .before .before .before .before .before .before .before .args in Begun (part "row " (a .row) ++ part " ink " (a .ink)) (a .out .now) (c .before .before .put-part2 .last .1 .1 .1 .0) (c .before .before .put-part2 .result)
 unfolding part ascii

@@ -5,13 +5,6 @@ use Rattle.listing.proofs.Lines.{text-inside}
 use borrow.Author.Needs.{needs}
 use Rattle.listings.proofs.list.Statement.{statement}
 use Rattle.listings.proofs.list.Tie as tie
-use Rattle.listings.proofs.list.Reads as reads
-use Rattle.listings.proofs.list.Lts as lts
-use Rattle.io.proofs.buffer.Reads as buffer-reads
-use Rattle.listing.proofs.first_line.Reads as first-line-reads
-use Rattle.listing.proofs.list_job.Reads as list-job-reads
-use Rattle.listings.proofs.list_rows.Reads as list-rows-reads
-use Rattle.listings.proofs.tell.Reads as tell-reads
 
 buffer-requires : tie.Need-buffer-requires
 buffer-requires c κs = search needs

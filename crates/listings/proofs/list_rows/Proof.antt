@@ -8,11 +8,6 @@ use Rattle.listing.proofs.Lines.{text-inside}
 use borrow.Author.Needs.{needs}
 use Rattle.listings.proofs.list_rows.Statement.{statement}
 use Rattle.listings.proofs.list_rows.Tie as tie
-use Rattle.listings.proofs.list_rows.Reads as reads
-use Rattle.listings.proofs.list_rows.Lts as lts
-use Rattle.listing.proofs.row_line.Reads as row-line-reads
-use Rattle.listings.proofs.tell.Reads as tell-reads
-use Rattle.rows.proofs.row.Reads as row-reads
 
 abbrev Inv-loop : tie.InvT-loop
 Inv-loop plan job line₀ text₀ row₀ line text row = (length line ≡ length line₀) × (length text ≡ length text₀)

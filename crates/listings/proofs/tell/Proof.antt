@@ -4,9 +4,6 @@ use lib.ListN.{length-take}
 use borrow.Author.Needs.{needs}
 use Rattle.listings.proofs.tell.Statement.{statement}
 use Rattle.listings.proofs.tell.Tie as tie
-use Rattle.listings.proofs.tell.Reads as reads
-use Rattle.listings.proofs.tell.Lts as lts
-use Rattle.io.proofs.write_all.Reads as write-all-reads
 
 slice-aggregate-write-all : tie.Need-slice-aggregate-write-all
 slice-aggregate-write-all c = simp length-take (omega arith)

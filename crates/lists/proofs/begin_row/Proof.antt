@@ -1,9 +1,7 @@
 -- `lists::begin_row` meets its contract. Assumes nothing.
 use mathlib.Core.Path.{_≡_, ap, sym, _∙_}
 use mathlib.Core.Bool.{Bool, _&&_}
-use mathlib.Core.List.{[]}
 use native.Mathlib.Omega.{arith}
-use native.Mathlib.Nat.{zero-add}
 use lib.ListN.{length}
 use denote.Ref.{now}
 use Rattle.rows.specs.Rows.{goodSizes, refusalOf}
@@ -12,11 +10,6 @@ use Rattle.lists.proofs.Laws.{refused, begun}
 use borrow.Author.Needs.{needs}
 use Rattle.lists.proofs.begin_row.Statement.{statement}
 use Rattle.lists.proofs.begin_row.Tie as tie
-use Rattle.lists.proofs.begin_row.Reads as reads
-use Rattle.lists.proofs.begin_row.Lts as lts
-use Rattle.dots.proofs.fill_run.Reads as fill-run-reads
-use Rattle.lists.proofs.sound.Reads as sound-reads
-use Rattle.rows.proofs.refusal_of.Reads as refusal-of-reads
 
 decided : (c : tie.After-refusal-of) → let a = c .before .before .before .args in c .refusal-of .result ≡ refusalOf (goodSizes (a .width) (a .height) (a .count) && a .good) (a .width) (a .height) (a .row) (length (now (a .line)))
 decided c = let a = c .before .before .before .args in c .refusal-of .ensures ∙ ap (λ (g : Bool). refusalOf g (a .width) (a .height) (a .row) (length (now (a .line)))) (c .before .sound .ensures)

@@ -4,9 +4,6 @@ use Rattle.lists.proofs.Laws.{refused, taken}
 use borrow.Author.Needs.{needs}
 use Rattle.lists.proofs.draw_on.Statement.{statement}
 use Rattle.lists.proofs.draw_on.Tie as tie
-use Rattle.lists.proofs.draw_on.Reads as reads
-use Rattle.lists.proofs.draw_on.Lts as lts
-use Rattle.entries.proofs.draw_entry.Reads as draw-entry-reads
 
 returns : tie.Need-returns
 returns c = refused _ _ (c .if1 .taken)

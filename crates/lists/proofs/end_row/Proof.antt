@@ -4,9 +4,6 @@ use Rattle.lists.proofs.Laws.{refused, taken}
 use borrow.Author.Needs.{needs}
 use Rattle.lists.proofs.end_row.Statement.{statement}
 use Rattle.lists.proofs.end_row.Tie as tie
-use Rattle.lists.proofs.end_row.Reads as reads
-use Rattle.lists.proofs.end_row.Lts as lts
-use Rattle.rows.proofs.ink_of.Reads as ink-of-reads
 
 returns : tie.Need-returns
 returns c = (refl, refused _ _ (c .if1 .taken), refl)

@@ -2,9 +2,6 @@
 use borrow.Author.Needs.{needs}
 use Rattle.lists.proofs.sound.Statement.{statement}
 use Rattle.lists.proofs.sound.Tie as tie
-use Rattle.lists.proofs.sound.Reads as reads
-use Rattle.lists.proofs.sound.Lts as lts
-use Rattle.rows.proofs.good_sizes.Reads as good-sizes-reads
 
 good-sizes-requires : tie.Need-good-sizes-requires
 good-sizes-requires c κs = search needs

@@ -3,9 +3,6 @@ use mathlib.Core.Path.{_∙_}
 use borrow.Author.Needs.{needs}
 use Rattle.lists.proofs.still_good.Statement.{statement}
 use Rattle.lists.proofs.still_good.Tie as tie
-use Rattle.lists.proofs.still_good.Reads as reads
-use Rattle.lists.proofs.still_good.Lts as lts
-use Rattle.entries.proofs.good_entry.Reads as good-entry-reads
 
 good-entry-requires : tie.Need-good-entry-requires
 good-entry-requires c κs = search needs

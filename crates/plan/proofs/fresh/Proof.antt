@@ -4,9 +4,6 @@ use Rattle.job.specs.Dropping.{padded}
 use borrow.Author.Needs.{needs}
 use Rattle.plan.proofs.fresh.Statement.{statement}
 use Rattle.plan.proofs.fresh.Tie as tie
-use Rattle.plan.proofs.fresh.Reads as reads
-use Rattle.plan.proofs.fresh.Lts as lts
-use Rattle.plan.proofs.no_entry.Reads as no-entry-reads
 
 no-entry-requires : tie.Need-no-entry-requires
 no-entry-requires c κs = search needs

@@ -9,9 +9,6 @@ use Rattle.plan.proofs.Going.{Searched, searched-start, searched-next, 
 use borrow.Author.Needs.{needs}
 use Rattle.plan.proofs.has_flip.Statement.{statement}
 use Rattle.plan.proofs.has_flip.Tie as tie
-use Rattle.plan.proofs.has_flip.Reads as reads
-use Rattle.plan.proofs.has_flip.Lts as lts
-use Rattle.job.proofs.next_record.Reads as next-record-reads
 
 abbrev Inv-loop : tie.InvT-loop
 Inv-loop s at₀ at = Searched s at

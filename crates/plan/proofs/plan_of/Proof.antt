@@ -10,14 +10,6 @@ use Rattle.plan.proofs.Answers.{plan-with}
 use borrow.Author.Needs.{needs}
 use Rattle.plan.proofs.plan_of.Statement.{statement}
 use Rattle.plan.proofs.plan_of.Tie as tie
-use Rattle.plan.proofs.plan_of.Reads as reads
-use Rattle.plan.proofs.plan_of.Lts as lts
-use Rattle.job.proofs.command_at.Reads as command-at-reads
-use Rattle.job.proofs.paper_color.Reads as paper-color-reads
-use Rattle.job.proofs.paper_width.Reads as paper-width-reads
-use Rattle.job.proofs.next_record.Reads as next-record-reads
-use Rattle.plan.proofs.fresh.Reads as fresh-reads
-use Rattle.plan.proofs.steps.step.Reads as step-reads
 
 abbrev Inv-loop : tie.InvT-loop
 Inv-loop s width p₀ k₀ at₀ p k at = Going s p k at

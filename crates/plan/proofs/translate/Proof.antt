@@ -4,12 +4,6 @@ use Rattle.plan.proofs.Answers.{refused-job, refused-flip, given-plan}
 use borrow.Author.Needs.{needs}
 use Rattle.plan.proofs.translate.Statement.{statement}
 use Rattle.plan.proofs.translate.Tie as tie
-use Rattle.plan.proofs.translate.Reads as reads
-use Rattle.plan.proofs.translate.Lts as lts
-use Rattle.job.proofs.job_refusal.Reads as job-refusal-reads
-use Rattle.plan.proofs.fresh.Reads as fresh-reads
-use Rattle.plan.proofs.has_flip.Reads as has-flip-reads
-use Rattle.plan.proofs.plan_of.Reads as plan-of-reads
 
 job-refusal-requires : tie.Need-job-refusal-requires
 job-refusal-requires c κs = search needs

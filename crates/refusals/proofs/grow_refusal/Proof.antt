@@ -1,5 +1,5 @@
 -- `refusals::grow_refusal` meets its contract. Assumes nothing.
-use mathlib.Core.Path.{refl, _∙_}
+use mathlib.Core.Path.{_∙_}
 use Rattle.refusals.specs.Refusals.{growRefusal}
 use borrow.Author.Needs.{needs}
 use Rattle.refusals.proofs.grow_refusal.Statement.{statement}

@@ -1,5 +1,5 @@
 -- `refusals::margin_refusal` meets its contract. Assumes nothing.
-use mathlib.Core.Path.{_≡_, refl, sym, _∙_}
+use mathlib.Core.Path.{_≡_, sym, _∙_}
 use Prim.Native.Nat.{_+_}
 use native.Mathlib.Omega.{arith}
 use Rattle.refusals.specs.Refusals.{first, unsound, tallRefusal, marginRefusal}

@@ -1,5 +1,4 @@
 -- `refusals::rows_of` meets its contract. Assumes nothing.
-use mathlib.Core.Path.{refl}
 use borrow.Author.Tests.{eq-eqb, ne-eqb}
 use Rattle.refusals.specs.Refusals.{rowsOf}
 use Rattle.refusals.proofs.rows_of.Statement.{statement}

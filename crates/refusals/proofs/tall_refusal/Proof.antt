@@ -1,5 +1,4 @@
 -- `refusals::tall_refusal` meets its contract. Assumes nothing.
-use mathlib.Core.Path.{refl}
 use borrow.Author.Tests.{lt-ltb, le-ltb}
 use Rattle.refusals.specs.Refusals.{tallRefusal}
 use borrow.Author.Needs.{needs}

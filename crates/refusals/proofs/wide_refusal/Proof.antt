@@ -1,5 +1,4 @@
 -- `refusals::wide_refusal` meets its contract. Assumes nothing.
-use mathlib.Core.Path.{refl}
 use borrow.Author.Tests.{lt-ltb, le-ltb}
 use Rattle.refusals.specs.Refusals.{wideRefusal}
 use Rattle.refusals.proofs.wide_refusal.Statement.{statement}

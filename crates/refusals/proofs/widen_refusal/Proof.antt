@@ -1,5 +1,5 @@
 -- `refusals::widen_refusal` meets its contract. Assumes nothing.
-use mathlib.Core.Path.{refl, _∙_}
+use mathlib.Core.Path.{_∙_}
 use borrow.Author.Tests.{le-leb, lt-leb}
 use Rattle.refusals.specs.Refusals.{widenRefusal}
 use Rattle.refusals.proofs.Codes.{first-last}

@@ -10,10 +10,6 @@ use Rattle.rows.proofs.Lines.{Banded, banded-start, banded-next, banded
 use borrow.Author.Needs.{needs}
 use Rattle.rows.proofs.draw_bands.Statement.{statement}
 use Rattle.rows.proofs.draw_bands.Tie as tie
-use Rattle.rows.proofs.draw_bands.Reads as reads
-use Rattle.rows.proofs.draw_bands.Lts as lts
-use Rattle.rows.proofs.draw_rows.Reads as draw-rows-reads
-use Rattle.rows.proofs.least.Reads as least-reads
 
 abbrev Inv-loop : tie.InvT-loop
 Inv-loop plan first count «data» buf₀ j₀ buf j = Banded «data» (plan .width) (plan .«paper_color») (used plan) first count buf₀ j buf

@@ -15,10 +15,6 @@ use Rattle.rows.proofs.Lines.{Applied, applied-start, applied-next, app
 use borrow.Author.Needs.{needs}
 use Rattle.rows.proofs.draw_rows.Statement.{statement}
 use Rattle.rows.proofs.draw_rows.Tie as tie
-use Rattle.rows.proofs.draw_rows.Reads as reads
-use Rattle.rows.proofs.draw_rows.Lts as lts
-use Rattle.dots.proofs.fill_run.Reads as fill-run-reads
-use Rattle.entries.proofs.draw_entry.Reads as draw-entry-reads
 
 abbrev Inv-loop : tie.InvT-loop
 Inv-loop first count «data» buf₀ top plan wide i₀ buf i = Applied «data» (plan .width) first top count (plan .count) (plan .entries) buf₀ i buf

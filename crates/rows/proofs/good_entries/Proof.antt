@@ -8,9 +8,6 @@ use Rattle.rows.proofs.Rules.{good-start, good-next, good-not}
 use borrow.Author.Needs.{needs}
 use Rattle.rows.proofs.good_entries.Statement.{statement}
 use Rattle.rows.proofs.good_entries.Tie as tie
-use Rattle.rows.proofs.good_entries.Reads as reads
-use Rattle.rows.proofs.good_entries.Lts as lts
-use Rattle.entries.proofs.good_entry.Reads as good-entry-reads
 
 abbrev Inv-loop : tie.InvT-loop
 Inv-loop n plan i₀ i = (i ≤ plan .count) × (goodEntries (plan .width) (plan .height) n (firsts i (plan .entries)) ≡ true)

@@ -5,10 +5,6 @@ use Rattle.rows.proofs.Rules.{sizes-good}
 use borrow.Author.Needs.{needs}
 use Rattle.rows.proofs.good_plan.Statement.{statement}
 use Rattle.rows.proofs.good_plan.Tie as tie
-use Rattle.rows.proofs.good_plan.Reads as reads
-use Rattle.rows.proofs.good_plan.Lts as lts
-use Rattle.rows.proofs.good_entries.Reads as good-entries-reads
-use Rattle.rows.proofs.good_sizes.Reads as good-sizes-reads
 
 good-sizes-requires : tie.Need-good-sizes-requires
 good-sizes-requires c κs = search needs

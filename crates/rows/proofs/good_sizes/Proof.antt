@@ -1,13 +1,9 @@
 -- `rows::good_sizes` meets its contract. Assumes nothing.
-use native.Mathlib.Omega.{arith}
 use borrow.Author.Tests.{le-leb, lt-leb}
 use Rattle.numbers.specs.Numbers.{limit}
 use Rattle.rows.specs.Rows.{goodSizes}
-use borrow.Author.Needs.{needs}
 use Rattle.rows.proofs.good_sizes.Statement.{statement}
 use Rattle.rows.proofs.good_sizes.Tie as tie
-use Rattle.rows.proofs.good_sizes.Reads as reads
-use Rattle.rows.proofs.good_sizes.Lts as lts
 
 returns : tie.Need-returns
 unfolding goodSizes

@@ -8,10 +8,6 @@ use Rattle.rows.proofs.Lines.{ink-none, ink-more, ink-few, ink-one}
 use borrow.Author.Needs.{needs}
 use Rattle.rows.proofs.ink_of.Statement.{statement}
 use Rattle.rows.proofs.ink_of.Tie as tie
-use Rattle.rows.proofs.ink_of.Reads as reads
-use Rattle.rows.proofs.ink_of.Lts as lts
-use Rattle.dots.proofs.get_dot.Reads as get-dot-reads
-use Rattle.rows.proofs.inked.Reads as inked-reads
 
 abbrev Inv-loop : tie.InvT-loop
 Inv-loop line n count₀ i₀ count i = (i ≤ n) × (count ≡ ink i line)

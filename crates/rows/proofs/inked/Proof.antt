@@ -1,11 +1,8 @@
 -- `rows::inked` meets its contract. Assumes nothing.
 use borrow.Author.Tests.{lt-ltb, le-ltb}
 use Rattle.rows.specs.Rows.{hasInk}
-use borrow.Author.Needs.{needs}
 use Rattle.rows.proofs.inked.Statement.{statement}
 use Rattle.rows.proofs.inked.Tie as tie
-use Rattle.rows.proofs.inked.Reads as reads
-use Rattle.rows.proofs.inked.Lts as lts
 
 returns : tie.Need-returns
 unfolding hasInk

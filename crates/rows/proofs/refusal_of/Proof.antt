@@ -4,9 +4,6 @@ use Rattle.rows.proofs.Rules.{refusal-one}
 use borrow.Author.Needs.{needs}
 use Rattle.rows.proofs.refusal_of.Statement.{statement}
 use Rattle.rows.proofs.refusal_of.Tie as tie
-use Rattle.rows.proofs.refusal_of.Reads as reads
-use Rattle.rows.proofs.refusal_of.Lts as lts
-use Rattle.rows.proofs.rows_refusal.Reads as rows-refusal-reads
 
 rows-refusal-requires : tie.Need-rows-refusal-requires
 rows-refusal-requires c κs = search needs

@@ -11,12 +11,6 @@ use Rattle.rows.proofs.Answers.{row-refused, row-kept, row-drawn, row-a
 use borrow.Author.Needs.{needs}
 use Rattle.rows.proofs.row.Statement.{statement}
 use Rattle.rows.proofs.row.Tie as tie
-use Rattle.rows.proofs.row.Reads as reads
-use Rattle.rows.proofs.row.Lts as lts
-use Rattle.rows.proofs.draw_rows.Reads as draw-rows-reads
-use Rattle.rows.proofs.good_plan.Reads as good-plan-reads
-use Rattle.rows.proofs.ink_of.Reads as ink-of-reads
-use Rattle.rows.proofs.refusal_of.Reads as refusal-of-reads
 
 decided : (c : tie.After-refusal-of) → let a = c .before .before .before .before .args in c .refusal-of .result ≡ planRefusal (a .plan) (a .row) (length (now (a .«data»))) (length (now (a .line)))
 decided c = let a = c .before .before .before .before .args in c .refusal-of .ensures ∙ ap (λ (g : Bool). refusalOf g (a .plan .width) (a .plan .height) (a .row) (length (now (a .line)))) (c .before .good-plan .ensures)

@@ -8,11 +8,6 @@ use Rattle.rows.proofs.Answers.{rows-kept, rows-drawn}
 use borrow.Author.Needs.{needs}
 use Rattle.rows.proofs.rows.Statement.{statement}
 use Rattle.rows.proofs.rows.Tie as tie
-use Rattle.rows.proofs.rows.Reads as reads
-use Rattle.rows.proofs.rows.Lts as lts
-use Rattle.rows.proofs.draw_bands.Reads as draw-bands-reads
-use Rattle.rows.proofs.good_plan.Reads as good-plan-reads
-use Rattle.rows.proofs.rows_refusal.Reads as rows-refusal-reads
 
 decided : (c : tie.After-rows-refusal)
     → let a = c .before .before .before .before .args in

@@ -7,8 +7,6 @@ use Rattle.rows.specs.Rows.{rowsRefusal}
 use borrow.Author.Needs.{needs}
 use Rattle.rows.proofs.rows_refusal.Statement.{statement}
 use Rattle.rows.proofs.rows_refusal.Tie as tie
-use Rattle.rows.proofs.rows_refusal.Reads as reads
-use Rattle.rows.proofs.rows_refusal.Lts as lts
 
 add-if2 : tie.Need-add-if2
 add-if2 c = search needs

@@ -5,15 +5,6 @@ use Rattle.runs.proofs.Answers.{job-refused, room-refused, room-enough,
 use borrow.Author.Needs.{needs}
 use Rattle.runs.proofs.run.Statement.{statement}
 use Rattle.runs.proofs.run.Tie as tie
-use Rattle.runs.proofs.run.Reads as reads
-use Rattle.runs.proofs.run.Lts as lts
-use Rattle.job.proofs.paper_color.Reads as paper-color-reads
-use Rattle.job.proofs.paper_width.Reads as paper-width-reads
-use Rattle.job.proofs.job_refusal.Reads as job-refusal-reads
-use Rattle.runs.proofs.draw.draw_all.Reads as draw-all-reads
-use Rattle.runs.proofs.refused.Reads as refused-reads
-use Rattle.runs.proofs.survey.look_over.Reads as look-over-reads
-use Rattle.refusals.proofs.room_refusal.Reads as room-refusal-reads
 
 job-refusal-requires : tie.Need-job-refusal-requires
 job-refusal-requires c κs = search needs

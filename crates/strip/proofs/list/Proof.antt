@@ -5,12 +5,6 @@ use Rattle.listing.proofs.Lines.{text-inside}
 use borrow.Author.Needs.{needs}
 use Rattle.strip.proofs.list.Statement.{statement}
 use Rattle.strip.proofs.list.Tie as tie
-use Rattle.strip.proofs.list.Reads as reads
-use Rattle.strip.proofs.list.Lts as lts
-use Rattle.io.proofs.large_buffer.Reads as large-buffer-reads
-use Rattle.listing.proofs.first_line.Reads as first-line-reads
-use Rattle.listing.proofs.list_job.Reads as list-job-reads
-use Rattle.strip.proofs.list_rows.Reads as list-rows-reads
 
 large-buffer-requires : tie.Need-large-buffer-requires
 large-buffer-requires c κs = search needs

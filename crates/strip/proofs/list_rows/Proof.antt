@@ -6,11 +6,6 @@ use lib.ListN.{length, length-take}
 use borrow.Author.Needs.{needs}
 use Rattle.strip.proofs.list_rows.Statement.{statement}
 use Rattle.strip.proofs.list_rows.Tie as tie
-use Rattle.strip.proofs.list_rows.Reads as reads
-use Rattle.strip.proofs.list_rows.Lts as lts
-use Rattle.io.proofs.write_all.Reads as write-all-reads
-use Rattle.rows.proofs.row.Reads as row-reads
-use Rattle.strip.proofs.put_line.Reads as put-line-reads
 
 abbrev Inv-loop : tie.InvT-loop
 Inv-loop plan job line₀ block₀ from at₀ row₀ line block at row = (at ≤ length block) × (length line ≡ length line₀) × (length block ≡ length block₀)

@@ -7,10 +7,6 @@ use Rattle.listing.proofs.Lines.{text-inside}
 use borrow.Author.Needs.{needs}
 use Rattle.strip.proofs.put_line.Statement.{statement}
 use Rattle.strip.proofs.put_line.Tie as tie
-use Rattle.strip.proofs.put_line.Reads as reads
-use Rattle.strip.proofs.put_line.Lts as lts
-use Rattle.io.proofs.write_all.Reads as write-all-reads
-use Rattle.listing.proofs.row_line.Reads as row-line-reads
 
 fits : (c : tie.After-row-line) → c .row-line .result .size + c .before .before .before .args .at ≤ length (c .before .before .before .args .block .now)
 fits c =

@@ -6,10 +6,6 @@ use lib.ListN.{length, length-take}
 use borrow.Author.Needs.{needs}
 use Rattle.strip.proofs.read_input.Statement.{statement}
 use Rattle.strip.proofs.read_input.Tie as tie
-use Rattle.strip.proofs.read_input.Reads as reads
-use Rattle.strip.proofs.read_input.Lts as lts
-use Rattle.io.proofs.count.Reads as count-reads
-use Rattle.libc.proofs.read.Reads as read-reads
 
 abbrev Inv-loop : tie.InvT-loop
 Inv-loop buf₀ at₀ buf at = (at ≤ length buf) × (length buf ≡ length buf₀)

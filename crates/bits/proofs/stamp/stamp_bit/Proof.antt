@@ -4,10 +4,6 @@ use Rattle.bits.proofs.Stamping.{full, bit-kept, bit-mixed}
 use borrow.Author.Needs.{needs}
 use Rattle.bits.proofs.stamp.stamp_bit.Statement.{statement}
 use Rattle.bits.proofs.stamp.stamp_bit.Tie as tie
-use Rattle.bits.proofs.stamp.stamp_bit.Reads as reads
-use Rattle.bits.proofs.stamp.stamp_bit.Lts as lts
-use Rattle.colour.proofs.RGBA.with_alpha.Reads as with-alpha-reads
-use Rattle.dots.proofs.mix_run.Reads as mix-run-reads
 
 returns : tie.Need-returns
 returns c = bit-kept _ (c .before .before .args .color) _ _ _ (c .if1 .taken)

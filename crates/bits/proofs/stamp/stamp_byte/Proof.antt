@@ -3,9 +3,6 @@ use mathlib.Core.Path.{_∙_}
 use borrow.Author.Needs.{needs}
 use Rattle.bits.proofs.stamp.stamp_byte.Statement.{statement}
 use Rattle.bits.proofs.stamp.stamp_byte.Tie as tie
-use Rattle.bits.proofs.stamp.stamp_byte.Reads as reads
-use Rattle.bits.proofs.stamp.stamp_byte.Lts as lts
-use Rattle.dots.proofs.mix_byte.Reads as mix-byte-reads
 
 mix-byte-requires : tie.Need-mix-byte-requires
 mix-byte-requires c κs = search needs

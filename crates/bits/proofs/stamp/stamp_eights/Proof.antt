@@ -8,10 +8,6 @@ use Rattle.bits.proofs.Rows.{Bits, byte-shown, bits-start, bits-next, b
 use borrow.Author.Needs.{needs}
 use Rattle.bits.proofs.stamp.stamp_eights.Statement.{statement}
 use Rattle.bits.proofs.stamp.stamp_eights.Tie as tie
-use Rattle.bits.proofs.stamp.stamp_eights.Reads as reads
-use Rattle.bits.proofs.stamp.stamp_eights.Lts as lts
-use Rattle.bits.proofs.bit.least.Reads as least-reads
-use Rattle.bits.proofs.stamp.stamp_some.Reads as stamp-some-reads
 
 abbrev Inv-loop : tie.InvT-loop
 Inv-loop buf₀ at count «data» from color multiply m k masks i₀ buf i = Bits (pixelDrawn multiply color) «data» from at count buf₀ i buf

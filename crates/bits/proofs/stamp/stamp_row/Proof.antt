@@ -3,10 +3,6 @@ use native.Mathlib.Omega.{arith}
 use borrow.Author.Needs.{needs}
 use Rattle.bits.proofs.stamp.stamp_row.Statement.{statement}
 use Rattle.bits.proofs.stamp.stamp_row.Tie as tie
-use Rattle.bits.proofs.stamp.stamp_row.Reads as reads
-use Rattle.bits.proofs.stamp.stamp_row.Lts as lts
-use Rattle.bits.proofs.stamp.stamp_eights.Reads as stamp-eights-reads
-use Rattle.bits.proofs.stamp.stamp_stretched.Reads as stamp-stretched-reads
 
 stamp-eights-requires : tie.Need-stamp-eights-requires
 stamp-eights-requires c κs = ((omega arith, λ i h. rw (c .before .if1 .taken) at (c .before .before .before .before .pre .0 .3 i h)), c .before .before .before .before .pre .1)

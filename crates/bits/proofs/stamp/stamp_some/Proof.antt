@@ -7,9 +7,6 @@ use Rattle.bits.proofs.Stamping.{Stamps, stamp-start, stamp-turn, stamp
 use borrow.Author.Needs.{needs}
 use Rattle.bits.proofs.stamp.stamp_some.Statement.{statement}
 use Rattle.bits.proofs.stamp.stamp_some.Tie as tie
-use Rattle.bits.proofs.stamp.stamp_some.Reads as reads
-use Rattle.bits.proofs.stamp.stamp_some.Lts as lts
-use Rattle.bits.proofs.stamp.stamp_byte.Reads as stamp-byte-reads
 
 abbrev Inv-loop : tie.InvT-loop
 Inv-loop buf₀ at byte n masks multiply m k from end j₀ buf j = (j ≤ end) × Stamps byte masks m k from j buf₀ buf

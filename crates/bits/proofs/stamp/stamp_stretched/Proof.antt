@@ -7,11 +7,6 @@ use Rattle.bits.proofs.Stretching.{Stretch, stretch-start, stretch-show
 use borrow.Author.Needs.{needs}
 use Rattle.bits.proofs.stamp.stamp_stretched.Statement.{statement}
 use Rattle.bits.proofs.stamp.stamp_stretched.Tie as tie
-use Rattle.bits.proofs.stamp.stamp_stretched.Reads as reads
-use Rattle.bits.proofs.stamp.stamp_stretched.Lts as lts
-use Rattle.bits.proofs.bit.bit_at.Reads as bit-at-reads
-use Rattle.bits.proofs.bit.least.Reads as least-reads
-use Rattle.bits.proofs.stamp.stamp_bit.Reads as stamp-bit-reads
 
 abbrev Inv-loop : tie.InvT-loop
 Inv-loop buf₀ at count «data» from fx color multiply m k x₀ i₀ buf x i = Stretch (pixelDrawn multiply color) «data» from fx at count buf₀ x i buf

@@ -4,9 +4,6 @@ use Rattle.bits.proofs.Unpacking.{on-landed, off-kept, off-put}
 use borrow.Author.Needs.{needs}
 use Rattle.bits.proofs.unpack.bit_dot.Statement.{statement}
 use Rattle.bits.proofs.unpack.bit_dot.Tie as tie
-use Rattle.bits.proofs.unpack.bit_dot.Reads as reads
-use Rattle.bits.proofs.unpack.bit_dot.Lts as lts
-use Rattle.colour.proofs.RGBA.with_alpha.Reads as with-alpha-reads
 
 with-alpha-requires : tie.Need-with-alpha-requires
 with-alpha-requires c κs = search needs

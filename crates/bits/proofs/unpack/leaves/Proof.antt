@@ -1,9 +1,6 @@
 -- `bits::unpack::leaves` meets its contract. Assumes nothing.
-use borrow.Author.Needs.{needs}
 use Rattle.bits.proofs.unpack.leaves.Statement.{statement}
 use Rattle.bits.proofs.unpack.leaves.Tie as tie
-use Rattle.bits.proofs.unpack.leaves.Reads as reads
-use Rattle.bits.proofs.unpack.leaves.Lts as lts
 
 returns : tie.Need-returns
 returns c = rw (c .if1 .taken)

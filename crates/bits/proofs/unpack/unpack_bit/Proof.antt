@@ -5,11 +5,6 @@ use Rattle.bits.proofs.Unpacking.{bit-left, bit-filled}
 use borrow.Author.Needs.{needs}
 use Rattle.bits.proofs.unpack.unpack_bit.Statement.{statement}
 use Rattle.bits.proofs.unpack.unpack_bit.Tie as tie
-use Rattle.bits.proofs.unpack.unpack_bit.Reads as reads
-use Rattle.bits.proofs.unpack.unpack_bit.Lts as lts
-use Rattle.bits.proofs.unpack.leaves.Reads as leaves-reads
-use Rattle.colour.proofs.RGBA.with_alpha.Reads as with-alpha-reads
-use Rattle.dots.proofs.fill_run.Reads as fill-run-reads
 
 leaves-requires : tie.Need-leaves-requires
 leaves-requires c κs = search needs

@@ -8,10 +8,6 @@ use Rattle.bits.proofs.Rows.{Bits, byte-shown, bits-start, bits-next, b
 use borrow.Author.Needs.{needs}
 use Rattle.bits.proofs.unpack.unpack_eights.Statement.{statement}
 use Rattle.bits.proofs.unpack.unpack_eights.Tie as tie
-use Rattle.bits.proofs.unpack.unpack_eights.Reads as reads
-use Rattle.bits.proofs.unpack.unpack_eights.Lts as lts
-use Rattle.bits.proofs.bit.least.Reads as least-reads
-use Rattle.bits.proofs.unpack.unpack_some.Reads as unpack-some-reads
 
 abbrev Inv-loop : tie.InvT-loop
 Inv-loop out₀ at count «data» from color blend masks i₀ out i = Bits (pixelLanded blend color) «data» from at count out₀ i out

@@ -3,10 +3,6 @@ use native.Mathlib.Omega.{arith}
 use borrow.Author.Needs.{needs}
 use Rattle.bits.proofs.unpack.unpack_row.Statement.{statement}
 use Rattle.bits.proofs.unpack.unpack_row.Tie as tie
-use Rattle.bits.proofs.unpack.unpack_row.Reads as reads
-use Rattle.bits.proofs.unpack.unpack_row.Lts as lts
-use Rattle.bits.proofs.unpack.unpack_eights.Reads as unpack-eights-reads
-use Rattle.bits.proofs.unpack.unpack_stretched.Reads as unpack-stretched-reads
 
 unpack-eights-requires : tie.Need-unpack-eights-requires
 unpack-eights-requires c κs = (omega arith, λ i h. rw (c .before .if1 .taken) at (c .before .before .before .before .pre .3 i h))

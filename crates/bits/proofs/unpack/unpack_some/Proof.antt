@@ -9,11 +9,6 @@ use Rattle.bits.proofs.Unpacking.{byte-start, byte-next}
 use borrow.Author.Needs.{needs}
 use Rattle.bits.proofs.unpack.unpack_some.Statement.{statement}
 use Rattle.bits.proofs.unpack.unpack_some.Tie as tie
-use Rattle.bits.proofs.unpack.unpack_some.Reads as reads
-use Rattle.bits.proofs.unpack.unpack_some.Lts as lts
-use Rattle.bits.proofs.unpack.bit_dot.Reads as bit-dot-reads
-use Rattle.dots.proofs.get_dot.Reads as get-dot-reads
-use Rattle.dots.proofs.set_dot.Reads as set-dot-reads
 
 abbrev Inv-loop : tie.InvT-loop
 Inv-loop out₀ at byte n masks color blend k₀ out k = (k ≤ n) × (length out ≡ length out₀) × (out ≡ byteOn (pixelLanded blend color) byte at k out₀)

@@ -7,11 +7,6 @@ use Rattle.bits.proofs.Stretching.{Stretch, stretch-start, stretch-show
 use borrow.Author.Needs.{needs}
 use Rattle.bits.proofs.unpack.unpack_stretched.Statement.{statement}
 use Rattle.bits.proofs.unpack.unpack_stretched.Tie as tie
-use Rattle.bits.proofs.unpack.unpack_stretched.Reads as reads
-use Rattle.bits.proofs.unpack.unpack_stretched.Lts as lts
-use Rattle.bits.proofs.bit.bit_at.Reads as bit-at-reads
-use Rattle.bits.proofs.bit.least.Reads as least-reads
-use Rattle.bits.proofs.unpack.unpack_bit.Reads as unpack-bit-reads
 
 abbrev Inv-loop : tie.InvT-loop
 Inv-loop out₀ at count «data» from fx color blend x₀ i₀ out x i = Stretch (pixelLanded blend color) «data» from fx at count out₀ x i out

@@ -1,5 +1,4 @@
 -- `colour::RenderColors::color_for_number` meets its contract. Assumes nothing.
-use mathlib.Core.Path.{refl}
 use mathlib.Core.Logic.{inl, inr, ⊎-elim}
 use borrow.Author.Tests.{ne-eqb}
 use Rattle.colour.specs.Colour.{colorForNumber}

@@ -11,8 +11,6 @@ use Rattle.dots.proofs.Mixed.{fill-four}
 use borrow.Author.Needs.{needs}
 use Rattle.dots.proofs.mix.lanes.Statement.{statement}
 use Rattle.dots.proofs.mix.lanes.Tie as tie
-use Rattle.dots.proofs.mix.lanes.Reads as reads
-use Rattle.dots.proofs.mix.lanes.Lts as lts
 
 abbrev Inv-loop : tie.InvT-loop
 Inv-loop x y z w p₀ j₀ p j =

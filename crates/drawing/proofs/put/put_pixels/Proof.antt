@@ -1,5 +1,5 @@
 -- `drawing::put::put_pixels` meets its contract. Assumes nothing.
-use mathlib.Core.Path.{_≡_, refl, sym, _∙_}
+use mathlib.Core.Path.{_≡_, sym, _∙_}
 use lib.ListN.{length}
 use denote.Ref.{now}
 use Rattle.thermal_image.proofs.Answers.{refused, did, kept, changed}

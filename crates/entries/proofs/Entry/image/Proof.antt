@@ -5,10 +5,6 @@ use Rattle.entries.proofs.Made.{image-made, scaled}
 use borrow.Author.Needs.{needs}
 use Rattle.entries.proofs.Entry.image.Statement.{statement}
 use Rattle.entries.proofs.Entry.image.Tie as tie
-use Rattle.entries.proofs.Entry.image.Reads as reads
-use Rattle.entries.proofs.Entry.image.Lts as lts
-use Rattle.entries.proofs.smaller.Reads as smaller-reads
-use Rattle.images.proofs.factor_of.Reads as factor-of-reads
 
 factor-of-requires : tie.Need-factor-of-requires
 factor-of-requires c κs = search needs

@@ -3,9 +3,6 @@ use Rattle.entries.proofs.Made.{rectangle-made}
 use borrow.Author.Needs.{needs}
 use Rattle.entries.proofs.Entry.rectangle.Statement.{statement}
 use Rattle.entries.proofs.Entry.rectangle.Tie as tie
-use Rattle.entries.proofs.Entry.rectangle.Reads as reads
-use Rattle.entries.proofs.Entry.rectangle.Lts as lts
-use Rattle.entries.proofs.smaller.Reads as smaller-reads
 
 sub-smaller : tie.Need-sub-smaller
 sub-smaller c = search needs

@@ -8,9 +8,6 @@ use Rattle.entries.proofs.Images.{Image, image-rules, row-in-part, row-
 use borrow.Author.Needs.{needs}
 use Rattle.entries.proofs.image.image_row.Statement.{statement}
 use Rattle.entries.proofs.image.image_row.Tie as tie
-use Rattle.entries.proofs.image.image_row.Reads as reads
-use Rattle.entries.proofs.image.image_row.Lts as lts
-use Rattle.bits.proofs.stamp_row.Reads as stamp-row-reads
 
 rules : (c : tie.Start) → Image (length (now (c .args .«data»))) (c .args .e)
 rules c = image-rules _ _ (c .pre .0 .0)

@@ -9,12 +9,6 @@ use Rattle.entries.specs.Entries.{imagePixel}
 use borrow.Author.Needs.{needs}
 use Rattle.entries.proofs.image.image_rows.Statement.{statement}
 use Rattle.entries.proofs.image.image_rows.Tie as tie
-use Rattle.entries.proofs.image.image_rows.Reads as reads
-use Rattle.entries.proofs.image.image_rows.Lts as lts
-use Rattle.colour.proofs.RGBA.with_alpha.Reads as with-alpha-reads
-use Rattle.dots.proofs.mix_factors.Reads as mix-factors-reads
-use Rattle.dots.proofs.mix_terms.Reads as mix-terms-reads
-use Rattle.entries.proofs.image.image_row.Reads as image-row-reads
 
 abbrev Inv-loop : tie.InvT-loop
 Inv-loop buf₀ wide row e first rows «data» multiply m k x j₀ buf j = Rows wide (e .x) row (e .w) rows (λ i j d. drawn multiply (imagePixel «data» e i (first + j)) d) buf₀ j buf

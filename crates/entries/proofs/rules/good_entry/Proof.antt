@@ -7,9 +7,6 @@ use Rattle.entries.specs.Entries.{goodEntry}
 use borrow.Author.Needs.{needs}
 use Rattle.entries.proofs.rules.good_entry.Statement.{statement}
 use Rattle.entries.proofs.rules.good_entry.Tie as tie
-use Rattle.entries.proofs.rules.good_entry.Reads as reads
-use Rattle.entries.proofs.rules.good_entry.Lts as lts
-use Rattle.entries.proofs.rules.good_kind.Reads as good-kind-reads
 
 returns : tie.Need-returns
 unfolding goodEntry

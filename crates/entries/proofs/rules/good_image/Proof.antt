@@ -10,9 +10,6 @@ use Rattle.entries.proofs.Tests.{Bounds, product}
 use borrow.Author.Needs.{needs}
 use Rattle.entries.proofs.rules.good_image.Statement.{statement}
 use Rattle.entries.proofs.rules.good_image.Tie as tie
-use Rattle.entries.proofs.rules.good_image.Reads as reads
-use Rattle.entries.proofs.rules.good_image.Lts as lts
-use Rattle.entries.proofs.rules.good_stretch.Reads as good-stretch-reads
 
 bounds : (c : tie.Start) → Bounds (c .args .e)
 bounds c = record { fx = omega arith; fy = omega arith; wide = omega arith; tall = omega arith }

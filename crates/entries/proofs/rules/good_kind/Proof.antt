@@ -6,9 +6,6 @@ use Rattle.entries.specs.Entries.{goodKind}
 use borrow.Author.Needs.{needs}
 use Rattle.entries.proofs.rules.good_kind.Statement.{statement}
 use Rattle.entries.proofs.rules.good_kind.Tie as tie
-use Rattle.entries.proofs.rules.good_kind.Reads as reads
-use Rattle.entries.proofs.rules.good_kind.Lts as lts
-use Rattle.entries.proofs.rules.good_image.Reads as good-image-reads
 
 returns : tie.Need-returns
 unfolding goodKind

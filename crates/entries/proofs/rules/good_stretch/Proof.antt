@@ -10,8 +10,6 @@ use Rattle.entries.proofs.Tests.{Bounds, product}
 use borrow.Author.Needs.{needs}
 use Rattle.entries.proofs.rules.good_stretch.Statement.{statement}
 use Rattle.entries.proofs.rules.good_stretch.Tie as tie
-use Rattle.entries.proofs.rules.good_stretch.Reads as reads
-use Rattle.entries.proofs.rules.good_stretch.Lts as lts
 
 bounds : (c : tie.Start) → Bounds (c .args .e)
 bounds c = record { fx = omega arith; fy = omega arith; wide = omega arith; tall = omega arith }

@@ -1,5 +1,4 @@
 -- `graphics::refusals::layer_bytes` meets its contract. Assumes nothing.
-use mathlib.Core.Path.{refl}
 use native.Mathlib.Omega.{arith}
 use Prim.Native.Nat.{_/_}
 use Rattle.graphics.specs.Layers.{layerBytes}

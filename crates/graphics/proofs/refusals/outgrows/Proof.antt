@@ -1,5 +1,4 @@
 -- `graphics::refusals::outgrows` meets its contract. Assumes nothing.
-use mathlib.Core.Path.{refl}
 use borrow.Author.Tests.{lt-ltb, le-ltb}
 use Rattle.graphics.specs.Layers.{outgrown}
 use Rattle.graphics.proofs.refusals.outgrows.Statement.{statement}

@@ -9,15 +9,6 @@ use Rattle.images.proofs.Scaling.{repeat-is-row, bits-in-data, bits-sho
 use borrow.Author.Needs.{needs}
 use Rattle.images.proofs.scale.draw_row.Statement.{statement}
 use Rattle.images.proofs.scale.draw_row.Tie as tie
-use Rattle.images.proofs.scale.draw_row.Reads as reads
-use Rattle.images.proofs.scale.draw_row.Lts as lts
-use Rattle.bits.proofs.unpack_row.Reads as unpack-row-reads
-use Rattle.images.proofs.formats.row_bytes.Reads as row-bytes-reads
-use Rattle.images.proofs.scale.is_bits.Reads as is-bits-reads
-use Rattle.images.proofs.scale.plain_pixels.Reads as plain-pixels-reads
-use Rattle.images.proofs.scale.repeats.Reads as repeats-reads
-use Rattle.images.proofs.scale.scale_pixels.Reads as scale-pixels-reads
-use Rattle.moves.proofs.move_run.Reads as move-run-reads
 
 again : (c : tie.Then1) → repeated (c .before .before .before .before .args .j) (c .before .before .before .before .args .source .fy) (c .before .before .before .before .args .blend) ≡ true
 again c = sym (c .before .repeats .ensures) ∙ c .if1 .taken

@@ -1,5 +1,5 @@
 -- `images::scale::land_dot` meets its contract. Assumes nothing.
-use mathlib.Core.Path.{refl, _∙_}
+use mathlib.Core.Path.{_∙_}
 use Rattle.bits.specs.Bits.{landed}
 use borrow.Author.Needs.{needs}
 use Rattle.images.proofs.scale.land_dot.Statement.{statement}

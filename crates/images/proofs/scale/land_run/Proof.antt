@@ -1,5 +1,4 @@
 -- `images::scale::land_run` meets its contract. Assumes nothing.
-use mathlib.Core.Path.{refl}
 use Rattle.dots.specs.Dots.{drawn}
 use Rattle.bits.specs.Bits.{landed}
 use borrow.Author.Needs.{needs}

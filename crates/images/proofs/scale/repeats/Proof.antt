@@ -1,5 +1,4 @@
 -- `images::scale::repeats` meets its contract. Assumes nothing.
-use mathlib.Core.Path.{refl}
 use Rattle.images.specs.Steps.{repeated}
 use borrow.Author.Needs.{needs}
 use Rattle.images.proofs.scale.repeats.Statement.{statement}

@@ -1,5 +1,4 @@
 -- `images::sizes::bytes_of` meets its contract. Assumes nothing.
-use mathlib.Core.Path.{refl}
 use native.Mathlib.Omega.{arith}
 use Rattle.bits.specs.Bits.{rowBytes}
 use Rattle.images.specs.Formats.{bytesOf}

@@ -1,5 +1,4 @@
 -- `images::sizes::factor_of` meets its contract. Assumes nothing.
-use mathlib.Core.Path.{refl}
 use borrow.Author.Tests.{eq-eqb, ne-eqb}
 use Rattle.images.specs.Stretching.{factor}
 use Rattle.images.proofs.sizes.factor_of.Statement.{statement}

@@ -1,11 +1,8 @@
 -- `listing::writing::digits_of` meets its contract. Assumes nothing.
 use native.Mathlib.Omega.{arith}
 use Rattle.listing.proofs.Digits.{Counted, counted-start, counted-next, counted-fits, counted-end}
-use borrow.Author.Needs.{needs}
 use Rattle.listing.proofs.writing.digits_of.Statement.{statement}
 use Rattle.listing.proofs.writing.digits_of.Tie as tie
-use Rattle.listing.proofs.writing.digits_of.Reads as reads
-use Rattle.listing.proofs.writing.digits_of.Lts as lts
 
 abbrev Inv-loop : tie.InvT-loop
 Inv-loop n count₀ rest₀ count rest = Counted n count rest

@@ -7,9 +7,6 @@ use Rattle.listing.proofs.Digits.{Spelled, spelled-start, spelled-next,
 use borrow.Author.Needs.{needs}
 use Rattle.listing.proofs.writing.put_number.Statement.{statement}
 use Rattle.listing.proofs.writing.put_number.Tie as tie
-use Rattle.listing.proofs.writing.put_number.Reads as reads
-use Rattle.listing.proofs.writing.put_number.Lts as lts
-use Rattle.listing.proofs.writing.digits_of.Reads as digits-of-reads
 
 abbrev Inv-loop : tie.InvT-loop
 Inv-loop n at out₀ end i₀ rest₀ out i rest = Spelled n at out₀ out i rest

@@ -9,10 +9,6 @@ use Rattle.listing.proofs.Lines.{sets-after}
 use borrow.Author.Needs.{needs}
 use Rattle.listing.proofs.writing.put_part.Statement.{statement}
 use Rattle.listing.proofs.writing.put_part.Tie as tie
-use Rattle.listing.proofs.writing.put_part.Reads as reads
-use Rattle.listing.proofs.writing.put_part.Lts as lts
-use Rattle.listing.proofs.writing.put_number.Reads as put-number-reads
-use Rattle.listing.proofs.writing.put_word.Reads as put-word-reads
 
 put-word-requires : tie.Need-put-word-requires
 put-word-requires c κs = let a = c .before .before .before .args in omega (arith, length-append (now (a .word)) (digits (a .n)))

@@ -7,8 +7,6 @@ use Rattle.listing.proofs.Lines.{Copied, copied-start, copied-next, cop
 use borrow.Author.Needs.{needs}
 use Rattle.listing.proofs.writing.put_word.Statement.{statement}
 use Rattle.listing.proofs.writing.put_word.Tie as tie
-use Rattle.listing.proofs.writing.put_word.Reads as reads
-use Rattle.listing.proofs.writing.put_word.Lts as lts
 
 abbrev Inv-loop : tie.InvT-loop
 Inv-loop word at out₀ i₀ out i = Copied word at out₀ out i

@@ -1,7 +1,6 @@
 -- `moves::lower::move_far` meets its contract. Assumes nothing.
 use native.Mathlib.Omega.{arith}
 use Rattle.moves.proofs.Pieces.{Down, down-start, down-next, down-end}
-use borrow.Author.Needs.{needs}
 use Rattle.moves.proofs.lower.move_far.Statement.{statement}
 use Rattle.moves.proofs.lower.move_far.Tie as tie
 

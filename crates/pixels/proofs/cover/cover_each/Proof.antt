@@ -6,7 +6,6 @@ use Prim.Native.Nat.{_-_}
 use Rattle.pixels.specs.Pixels.{plain}
 use Rattle.pixels.proofs.Plain.{all-plain-at}
 use Rattle.pixels.proofs.Runs.{Drawn, drawn-start, drawn-next, drawn-end}
-use borrow.Author.Needs.{needs}
 use Rattle.pixels.proofs.cover.cover_each.Statement.{statement}
 use Rattle.pixels.proofs.cover.cover_each.Tie as tie
 

@@ -1,5 +1,4 @@
 -- `places::rules::empty_refusal` meets its contract. Assumes nothing.
-use mathlib.Core.Path.{refl}
 use borrow.Author.Tests.{eq-eqb, ne-eqb}
 use Rattle.places.specs.Places.{emptyRefusal}
 use Rattle.places.proofs.rules.empty_refusal.Statement.{statement}

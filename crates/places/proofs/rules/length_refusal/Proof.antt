@@ -1,5 +1,4 @@
 -- `places::rules::length_refusal` meets its contract. Assumes nothing.
-use mathlib.Core.Path.{refl}
 use borrow.Author.Tests.{eq-eqb, ne-eqb}
 use Rattle.places.specs.Places.{lengthRefusal}
 use Rattle.places.proofs.rules.length_refusal.Statement.{statement}

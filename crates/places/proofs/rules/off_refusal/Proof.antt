@@ -1,5 +1,4 @@
 -- `places::rules::off_refusal` meets its contract. Assumes nothing.
-use mathlib.Core.Path.{refl}
 use borrow.Author.Tests.{le-leb, lt-leb}
 use Rattle.places.specs.Places.{offRefusal}
 use Rattle.places.proofs.rules.off_refusal.Statement.{statement}

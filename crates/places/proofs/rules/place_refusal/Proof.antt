@@ -1,5 +1,5 @@
 -- `places::rules::place_refusal` meets its contract. Assumes nothing.
-use mathlib.Core.Path.{refl, _∙_}
+use mathlib.Core.Path.{_∙_}
 use Rattle.places.specs.Places.{placeRefusal}
 use borrow.Author.Needs.{needs}
 use Rattle.places.proofs.rules.place_refusal.Statement.{statement}

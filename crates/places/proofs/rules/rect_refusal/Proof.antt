@@ -1,5 +1,5 @@
 -- `places::rules::rect_refusal` meets its contract. Assumes nothing.
-use mathlib.Core.Path.{refl, _∙_}
+use mathlib.Core.Path.{_∙_}
 use Rattle.places.proofs.Equal.{equal-refusal}
 use borrow.Author.Needs.{needs}
 use Rattle.places.proofs.rules.rect_refusal.Statement.{statement}

@@ -1,5 +1,4 @@
 -- `places::rules::side_refusal` meets its contract. Assumes nothing.
-use mathlib.Core.Path.{refl}
 use borrow.Author.Tests.{lt-ltb, le-ltb}
 use Rattle.places.specs.Places.{sideRefusal}
 use Rattle.places.proofs.rules.side_refusal.Statement.{statement}

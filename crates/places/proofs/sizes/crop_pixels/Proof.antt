@@ -1,5 +1,5 @@
 -- `places::sizes::crop_pixels` meets its contract. Assumes nothing.
-use mathlib.Core.Path.{_≡_, refl, sym, _∙_}
+use mathlib.Core.Path.{_≡_, sym, _∙_}
 use mathlib.Core.Bool.{true}
 use borrow.Author.Tests.{not-true, not-false}
 use Rattle.places.specs.Places.{cropped, cropWide, cropTall}

@@ -1,5 +1,4 @@
 -- `places::sizes::cropped` meets its contract. Assumes nothing.
-use mathlib.Core.Path.{refl}
 use borrow.Author.Tests.{lt-ltb, le-ltb}
 use Rattle.places.specs.Places.{cropped}
 use borrow.Author.Needs.{needs}

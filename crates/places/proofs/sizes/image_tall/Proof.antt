@@ -1,5 +1,5 @@
 -- `places::sizes::image_tall` meets its contract. Assumes nothing.
-use mathlib.Core.Path.{refl, _∙_}
+use mathlib.Core.Path.{_∙_}
 use Rattle.places.specs.Places.{imageTall}
 use borrow.Author.Needs.{needs}
 use Rattle.places.proofs.sizes.image_tall.Statement.{statement}

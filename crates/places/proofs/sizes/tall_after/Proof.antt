@@ -1,5 +1,5 @@
 -- `places::sizes::tall_after` meets its contract. Assumes nothing.
-use mathlib.Core.Path.{refl, _∙_}
+use mathlib.Core.Path.{_∙_}
 use Rattle.places.specs.Places.{tallAfter}
 use borrow.Author.Needs.{needs}
 use Rattle.places.proofs.sizes.tall_after.Statement.{statement}

@@ -3,9 +3,6 @@ use Rattle.plan.proofs.Answers.{pushed-high}
 use borrow.Author.Needs.{needs}
 use Rattle.plan.proofs.steps.push.Statement.{statement}
 use Rattle.plan.proofs.steps.push.Tie as tie
-use Rattle.plan.proofs.steps.push.Reads as reads
-use Rattle.plan.proofs.steps.push.Lts as lts
-use Rattle.plan.proofs.steps.larger.Reads as larger-reads
 
 mul-e : tie.Need-mul-e
 mul-e c = search needs

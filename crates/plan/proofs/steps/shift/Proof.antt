@@ -11,8 +11,6 @@ use Rattle.plan.proofs.Answers.{lower-step}
 use borrow.Author.Needs.{needs}
 use Rattle.plan.proofs.steps.shift.Statement.{statement}
 use Rattle.plan.proofs.steps.shift.Tie as tie
-use Rattle.plan.proofs.steps.shift.Reads as reads
-use Rattle.plan.proofs.steps.shift.Lts as lts
 
 abbrev Inv-loop : tie.InvT-loop
 Inv-loop m p₀ n i₀ p i = (i ≤ n) × (p ≡ withEntries p₀ (p₀ .height) n (lowered m i (p₀ .entries)))

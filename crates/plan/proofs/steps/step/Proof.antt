@@ -6,14 +6,6 @@ use Rattle.plan.proofs.Answers.{rectangle-planned, rectangle-end, image
 use borrow.Author.Needs.{needs}
 use Rattle.plan.proofs.steps.step.Statement.{statement}
 use Rattle.plan.proofs.steps.step.Tie as tie
-use Rattle.plan.proofs.steps.step.Reads as reads
-use Rattle.plan.proofs.steps.step.Lts as lts
-use Rattle.entries.proofs.Entry.image.Reads as image-reads
-use Rattle.entries.proofs.Entry.rectangle.Reads as rectangle-reads
-use Rattle.job.proofs.command_refusal.Reads as command-refusal-reads
-use Rattle.plan.proofs.steps.leave_out.Reads as leave-out-reads
-use Rattle.plan.proofs.steps.push.Reads as push-reads
-use Rattle.plan.proofs.steps.shift.Reads as shift-reads
 
 command-refusal-requires : tie.Need-command-refusal-requires
 command-refusal-requires c κs = search needs

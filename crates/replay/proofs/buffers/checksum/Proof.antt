@@ -4,9 +4,6 @@ use lib.ListN.{length}
 use borrow.Author.Needs.{needs}
 use Rattle.replay.proofs.buffers.checksum.Statement.{statement}
 use Rattle.replay.proofs.buffers.checksum.Tie as tie
-use Rattle.replay.proofs.buffers.checksum.Reads as reads
-use Rattle.replay.proofs.buffers.checksum.Lts as lts
-use Rattle.replay.proofs.buffers.summed.Reads as summed-reads
 
 abbrev Inv-loop : tie.InvT-loop
 Inv-loop bytes sum₀ i₀ sum i = i ≤ length bytes

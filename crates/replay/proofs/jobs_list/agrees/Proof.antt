@@ -4,12 +4,6 @@ use lib.ListN.{length-take}
 use borrow.Author.Needs.{needs}
 use Rattle.replay.proofs.jobs_list.agrees.Statement.{statement}
 use Rattle.replay.proofs.jobs_list.agrees.Tie as tie
-use Rattle.replay.proofs.jobs_list.agrees.Reads as reads
-use Rattle.replay.proofs.jobs_list.agrees.Lts as lts
-use Rattle.replay.proofs.buffers.fill.Reads as fill-reads
-use Rattle.replay.proofs.hex.number_at.Reads as number-at-reads
-use Rattle.replay.proofs.jobs_list.both_agree.Reads as both-agree-reads
-use Rattle.replay.proofs.lines.unpack.Reads as unpack-reads
 
 number-at-requires : tie.Need-number-at-requires
 number-at-requires c κs = search needs

@@ -3,9 +3,6 @@ use Prim.Native.Nat.{_-_, _≤_}
 use borrow.Author.Needs.{needs}
 use Rattle.replay.proofs.jobs_list.listed.Statement.{statement}
 use Rattle.replay.proofs.jobs_list.listed.Tie as tie
-use Rattle.replay.proofs.jobs_list.listed.Reads as reads
-use Rattle.replay.proofs.jobs_list.listed.Lts as lts
-use Rattle.replay.proofs.buffers.summed.Reads as summed-reads
 
 abbrev Inv-loop : tie.InvT-loop
 Inv-loop count dropped sum₀ i₀ sum i = i ≤ 64

@@ -5,12 +5,6 @@ use lib.ListN.{length}
 use borrow.Author.Needs.{needs}
 use Rattle.replay.proofs.jobs_list.rows_agree.Statement.{statement}
 use Rattle.replay.proofs.jobs_list.rows_agree.Tie as tie
-use Rattle.replay.proofs.jobs_list.rows_agree.Reads as reads
-use Rattle.replay.proofs.jobs_list.rows_agree.Lts as lts
-use Rattle.replay.proofs.jobs_list.inked.Reads as inked-reads
-use Rattle.replay.proofs.jobs_list.past.Reads as past-reads
-use Rattle.replay.proofs.jobs_list.same_bytes.Reads as same-bytes-reads
-use Rattle.rows.proofs.row.Reads as row-reads
 
 abbrev Inv-loop : tie.InvT-loop
 Inv-loop plan job canvas line₀ ink wide sum₀ from₀ row₀ line sum from row = (row ≤ plan .height) × (from ≤ length canvas) × (length line ≡ length line₀)

@@ -3,8 +3,6 @@ use Prim.Native.Nat.{_-_, _≤_}
 use borrow.Author.Needs.{needs}
 use Rattle.replay.proofs.jobs_list.same_bytes.Statement.{statement}
 use Rattle.replay.proofs.jobs_list.same_bytes.Tie as tie
-use Rattle.replay.proofs.jobs_list.same_bytes.Reads as reads
-use Rattle.replay.proofs.jobs_list.same_bytes.Lts as lts
 
 abbrev Inv-loop : tie.InvT-loop
 Inv-loop line canvas from wide i₀ i = i ≤ wide

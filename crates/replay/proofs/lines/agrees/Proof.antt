@@ -2,10 +2,6 @@
 use borrow.Author.Needs.{needs}
 use Rattle.replay.proofs.lines.agrees.Statement.{statement}
 use Rattle.replay.proofs.lines.agrees.Tie as tie
-use Rattle.replay.proofs.lines.agrees.Reads as reads
-use Rattle.replay.proofs.lines.agrees.Lts as lts
-use Rattle.replay.proofs.decoders_list.agrees.Reads as decoders-list-agrees-reads
-use Rattle.replay.proofs.jobs_list.agrees.Reads as jobs-list-agrees-reads
 
 agrees-requires : tie.Need-agrees-requires
 agrees-requires c κs = rw (c .before .before .if1 .taken) at (c .before .before .before .before .before .before .pre)

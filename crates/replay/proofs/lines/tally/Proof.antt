@@ -8,11 +8,6 @@ use Rattle.replay.proofs.Heads.{head-range}
 use borrow.Author.Needs.{needs}
 use Rattle.replay.proofs.lines.tally.Statement.{statement}
 use Rattle.replay.proofs.lines.tally.Tie as tie
-use Rattle.replay.proofs.lines.tally.Reads as reads
-use Rattle.replay.proofs.lines.tally.Lts as lts
-use Rattle.replay.proofs.hex.number_at.Reads as number-at-reads
-use Rattle.replay.proofs.lines.agrees.Reads as agrees-reads
-use Rattle.replay.proofs.lines.head_of.Reads as head-of-reads
 
 abbrev Inv-loop : tie.InvT-loop
 Inv-loop lines jobs data₀ out₀ head agree₀ differ₀ at₀ «data» out agree differ at = (at ≤ length lines) × (agree + differ ≤ at) × (length «data» ≡ length data₀) × (length out ≡ length out₀) × (76 ≤ head) × (head ≤ 79)

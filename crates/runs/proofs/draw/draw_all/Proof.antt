@@ -9,13 +9,6 @@ use Rattle.runs.proofs.Going.{Drawing, drawing-start, drawing-bad, draw
 use borrow.Author.Needs.{needs}
 use Rattle.runs.proofs.draw.draw_all.Statement.{statement}
 use Rattle.runs.proofs.draw.draw_all.Tie as tie
-use Rattle.runs.proofs.draw.draw_all.Reads as reads
-use Rattle.runs.proofs.draw.draw_all.Lts as lts
-use Rattle.job.proofs.command_at.Reads as command-at-reads
-use Rattle.job.proofs.paper_color.Reads as paper-color-reads
-use Rattle.job.proofs.paper_width.Reads as paper-width-reads
-use Rattle.job.proofs.next_record.Reads as next-record-reads
-use Rattle.runs.proofs.draw.obey.Reads as obey-reads
 
 abbrev Inv-loop : tie.InvT-loop
 Inv-loop s buf₀ width paper height₀ at₀ buf height at = Drawing s buf₀ buf height at

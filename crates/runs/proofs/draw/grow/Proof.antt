@@ -6,9 +6,6 @@ use Rattle.runs.proofs.Answers.{dots-fit, grow-none, grow-asks, grow-so
 use borrow.Author.Needs.{needs}
 use Rattle.runs.proofs.draw.grow.Statement.{statement}
 use Rattle.runs.proofs.draw.grow.Tie as tie
-use Rattle.runs.proofs.draw.grow.Reads as reads
-use Rattle.runs.proofs.draw.grow.Lts as lts
-use Rattle.dots.proofs.fill_run.Reads as fill-run-reads
 
 returns : tie.Need-returns
 returns c = grow-none _ _ _ _ _ (c .if1 .taken)

@@ -7,15 +7,6 @@ use Rattle.runs.proofs.Answers.{dots-fit, step-out, step-in, rectangle-
 use borrow.Author.Needs.{needs}
 use Rattle.runs.proofs.draw.obey.Statement.{statement}
 use Rattle.runs.proofs.draw.obey.Tie as tie
-use Rattle.runs.proofs.draw.obey.Reads as reads
-use Rattle.runs.proofs.draw.obey.Lts as lts
-use Rattle.areas.proofs.flip_area.Reads as flip-area-reads
-use Rattle.entries.proofs.Entry.image.Reads as image-reads
-use Rattle.entries.proofs.Entry.rectangle.Reads as rectangle-reads
-use Rattle.job.proofs.command_refusal.Reads as command-refusal-reads
-use Rattle.moves.proofs.move_down.Reads as move-down-reads
-use Rattle.runs.proofs.draw.grow.Reads as grow-reads
-use Rattle.runs.proofs.draw.place.Reads as place-reads
 
 command-refusal-requires : tie.Need-command-refusal-requires
 command-refusal-requires c κs = search needs

@@ -4,10 +4,6 @@ use Rattle.runs.proofs.Answers.{place-asks, place-answers}
 use borrow.Author.Needs.{needs}
 use Rattle.runs.proofs.draw.place.Statement.{statement}
 use Rattle.runs.proofs.draw.place.Tie as tie
-use Rattle.runs.proofs.draw.place.Reads as reads
-use Rattle.runs.proofs.draw.place.Lts as lts
-use Rattle.entries.proofs.draw_entry.Reads as draw-entry-reads
-use Rattle.runs.proofs.draw.grow.Reads as grow-reads
 
 add-grow : tie.Need-add-grow
 add-grow c = omega (arith, c .before .before .before .before .pre .0 .tall)

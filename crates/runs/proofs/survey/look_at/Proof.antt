@@ -5,11 +5,6 @@ use Rattle.runs.proofs.Answers.{seen-out, seen-in}
 use borrow.Author.Needs.{needs}
 use Rattle.runs.proofs.survey.look_at.Statement.{statement}
 use Rattle.runs.proofs.survey.look_at.Tie as tie
-use Rattle.runs.proofs.survey.look_at.Reads as reads
-use Rattle.runs.proofs.survey.look_at.Lts as lts
-use Rattle.job.proofs.command_refusal.Reads as command-refusal-reads
-use Rattle.job.proofs.height_after.Reads as height-after-reads
-use Rattle.runs.proofs.survey.leave_out.Reads as leave-out-reads
 
 command-refusal-requires : tie.Need-command-refusal-requires
 command-refusal-requires c κs = search needs

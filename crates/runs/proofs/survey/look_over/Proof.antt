@@ -9,13 +9,6 @@ use Rattle.runs.proofs.Going.{Surveyed, surveyed-start, surveyed-bad, s
 use borrow.Author.Needs.{needs}
 use Rattle.runs.proofs.survey.look_over.Statement.{statement}
 use Rattle.runs.proofs.survey.look_over.Tie as tie
-use Rattle.runs.proofs.survey.look_over.Reads as reads
-use Rattle.runs.proofs.survey.look_over.Lts as lts
-use Rattle.job.proofs.command_at.Reads as command-at-reads
-use Rattle.job.proofs.paper_width.Reads as paper-width-reads
-use Rattle.job.proofs.next_record.Reads as next-record-reads
-use Rattle.runs.proofs.survey.look_at.Reads as look-at-reads
-use Rattle.runs.proofs.survey.nothing.Reads as nothing-reads
 
 abbrev Inv-loop : tie.InvT-loop
 Inv-loop s width v₀ k₀ at₀ v k at = Surveyed s v k at

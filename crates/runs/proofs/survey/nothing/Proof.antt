@@ -3,8 +3,6 @@ use mathlib.Core.Path.{refl}
 use Rattle.job.specs.Dropping.{padded}
 use Rattle.runs.proofs.survey.nothing.Statement.{statement}
 use Rattle.runs.proofs.survey.nothing.Tie as tie
-use Rattle.runs.proofs.survey.nothing.Reads as reads
-use Rattle.runs.proofs.survey.nothing.Lts as lts
 
 returns : tie.Need-returns
 unfolding padded

@@ -1,5 +1,5 @@
 -- `thermal_image::ThermalImage::add_top_margin` meets its contract. Assumes nothing.
-use mathlib.Core.Path.{refl, sym, _∙_}
+use mathlib.Core.Path.{sym, _∙_}
 use Prim.Native.Nat.{_+_}
 use native.Mathlib.Nat.{mul-add}
 use native.Mathlib.Omega.{arith}
