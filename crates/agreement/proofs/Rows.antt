@@ -67,30 +67,30 @@ module _ (s : List ℕ) (g : Plannable s) where
       (given-row (paperWidth s) (jobHeight s) (length s) _ _ j n (record { good = plan-rules s (g .bytes) (good s job-done); below = h; room = omega arith }))
 
   -- and so are some rows at once
-  rows-done : (first n room : ℕ) → first + n ≤ jobHeight s → 4 * (n * paperWidth s) ≤ room → planRowsRefusal (planOf s) first n (length s) room ≡ done
+  rows-done : (top n room : ℕ) → top + n ≤ jobHeight s → 4 * (n * paperWidth s) ≤ room → planRowsRefusal (planOf s) top n (length s) room ≡ done
   unfolding planOf
-  rows-done first n room h r =
+  rows-done top n room h r =
       rw used-all
-      (asked-rows (paperWidth s) (jobHeight s) (length s) _ _ first n room (record { good = plan-rules s (g .bytes) (good s job-done); within = h; room = omega arith }))
+      (asked-rows (paperWidth s) (jobHeight s) (length s) _ _ top n room (record { good = plan-rules s (g .bytes) (good s job-done); within = h; room = omega arith }))
 
   run-dot : (buf : List ℕ) (i j : ℕ) → i < paperWidth s → j < jobHeight s → 4 * (paperWidth s * jobHeight s) ≤ length buf
       → dotAt (runOn s buf) (j * paperWidth s + i) ≡ runPicture s i j
   unfolding runOn written
   run-dot buf i j a h room = rw (run-done (length buf) room) (shown-dot (paperWidth s) (jobHeight s) (runPicture s) buf (omega arith) i j a h)
 
-  plan-rows-dot : (lines : List ℕ) (first n : ℕ) → first + n ≤ jobHeight s → 4 * (n * paperWidth s) ≤ length lines
-      → (i j : ℕ) → i < paperWidth s → j < n → dotAt (planRowsWritten s (planOf s) first n lines) (j * paperWidth s + i) ≡ runPicture s i (first + j)
+  plan-rows-dot : (lines : List ℕ) (top n : ℕ) → top + n ≤ jobHeight s → 4 * (n * paperWidth s) ≤ length lines
+      → (i j : ℕ) → i < paperWidth s → j < n → dotAt (planRowsWritten s (planOf s) top n lines) (j * paperWidth s + i) ≡ runPicture s i (top + j)
   unfolding planRowsWritten planOf
-  plan-rows-dot lines first n h r i j a b =
-      rw (rows-done first n (length lines) h r)
-      (rows-dot s (paperWidth s) (paperColor s) _ first n lines i j a b (omega arith) ∙ rw used-all (dots-agree s i (first + j) a (g .plain)))
+  plan-rows-dot lines top n h r i j a b =
+      rw (rows-done top n (length lines) h r)
+      (rows-dot s (paperWidth s) (paperColor s) _ top n lines i j a b (omega arith) ∙ rw used-all (dots-agree s i (top + j) a (g .plain)))
 
-  pub same-rows : (buf lines : List ℕ) (first n : ℕ) → first + n ≤ jobHeight s → 4 * (paperWidth s * jobHeight s) ≤ length buf → 4 * (n * paperWidth s) ≤ length lines
-      → SameRows (paperWidth s) first n (runOn s buf) (planRowsRefusal (planOf s) first n (length s) (length lines)) (planRowsWritten s (planOf s) first n lines)
-  same-rows buf lines first n h room r =
+  pub same-rows : (buf lines : List ℕ) (top n : ℕ) → top + n ≤ jobHeight s → 4 * (paperWidth s * jobHeight s) ≤ length buf → 4 * (n * paperWidth s) ≤ length lines
+      → SameRows (paperWidth s) top n (runOn s buf) (planRowsRefusal (planOf s) top n (length s) (length lines)) (planRowsWritten s (planOf s) top n lines)
+  same-rows buf lines top n h room r =
       record {
-        given = rows-done first n (length lines) h r;
-        dot = λ i j a b. plan-rows-dot lines first n h r i j a b ∙ sym (run-dot buf i (first + j) a (omega arith) room);
+        number = rows-done top n (length lines) h r;
+        dot = λ i j a b. plan-rows-dot lines top n h r i j a b ∙ sym (run-dot buf i (top + j) a (omega arith) room);
       }
 
   module _ (buf line : List ℕ) (j : ℕ) (h : j < jobHeight s) (room : 4 * (paperWidth s * jobHeight s) ≤ length buf) (r : 4 * paperWidth s ≤ length line) where

@@ -69,10 +69,10 @@ pub record SameRow (W j : ℕ) (canvas : List ℕ) (r : RowAnswer) (line : List 
   -- the count over the canvas's row
   pub ink : r .ink ≡ ink W (drop (j * W * 4) canvas)
 
--- what `rows` answers and leaves in its buffer, beside n rows of that canvas from row `first` on
-pub record SameRows (W first n : ℕ) (canvas : List ℕ) (number : ℕ) (lines : List ℕ) : Type 0 where
-  pub given : number ≡ done
-  -- the four bytes of column i of the j-th of them
+-- what `rows` answers and leaves in its buffer, beside the n rows from row `first` on of a canvas W dots wide
+pub record SameRows (W first n : ℕ) (canvas : List ℕ) (r : ℕ) (lines : List ℕ) : Type 0 where
+  pub number : r ≡ done
+  -- the four bytes of column i of row first + j
   pub dot : (i j : ℕ) → i < W → j < n → dotAt lines (j * W + i) ≡ dotAt canvas ((first + j) * W + i)
 
 -- what `run` answers and leaves in its buffer, beside what `translate` answers
@@ -85,7 +85,7 @@ pub record Same (s : List ℕ) (r : Ran) (canvas : List ℕ) (t : Translated) : 
   pub count : r .«dropped_count» ≡ t .plan .«dropped_count»
   pub dropped : r .dropped ≡ t .plan .dropped
   -- each row alone, so that rows may be asked for in any order
-  pub rows : (j : ℕ) (before line : List ℕ) (a : RowAnswer) → j < t .plan .height → 4 * t .plan .width ≤ length before
+  pub alone : (j : ℕ) (before line : List ℕ) (a : RowAnswer) → j < t .plan .height → 4 * t .plan .width ≤ length before
       → Row (t .plan) j s before a line → SameRow (t .plan .width) j canvas a line
   -- some rows at once
   pub at-once : (first n : ℕ) (before lines : List ℕ) (a : ℕ) → first + n ≤ t .plan .height → 4 * (n * t .plan .width) ≤ length before

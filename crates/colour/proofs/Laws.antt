@@ -19,6 +19,10 @@ rgba-eq p q r s = λ i. record { r = p i; g = q i; b = r i; a = s i }
 pub by-256 : (n : ℕ) → n ≤ 65025 → (n + 128 + (n + 128) / 256) / 256 ≡ nearest n 255
 by-256 n h = omega arith
 
+pub blend-byte-none : (s c : ℕ) → blendByte s c 0 ≡ s
+unfolding blendByte
+blend-byte-none s c = omega arith
+
 pub blend-byte-full : (s c : ℕ) → blendByte s c 255 ≡ c
 unfolding blendByte
 blend-byte-full s c = omega arith

@@ -60,17 +60,17 @@ module _ (at by count : ℕ) (l : List ℕ) where
       → b ≡ change (within (at + by) (at + by + count)) (λ i _. dotAt l (i - by)) l
   moved-end {i} o h r = all-moved (to + i) (to + count * 4) (o .sofar) (omega arith) refl r
 
-  pub record MovedUp (i : ℕ) (b : List ℕ) : Type 0 where
+  pub record MovedFirst (i : ℕ) (b : List ℕ) : Type 0 where
     pub upto : i ≤ count * 4
     pub same : length b ≡ length l
     pub sofar : b ≡ over (within to (to + i)) movedByte l
 
-  pub up-start : MovedUp 0 l
-  up-start = record { upto = omega arith; same = refl; sofar = rw add-zero (over-empty to movedByte l) }
+  pub first-start : MovedFirst 0 l
+  first-start = record { upto = omega arith; same = refl; sofar = rw add-zero (over-empty to movedByte l) }
 
-  pub up-next : {i : ℕ} {b : List ℕ} → MovedUp i b → i < count * 4 → count ≤ by → (at + by + count) * 4 ≤ length l
-      → MovedUp (i + 1) (set b (to + i) (getD b (at * 4 + i) 0))
-  up-next {i} {b} o h apart r =
+  pub first-next : {i : ℕ} {b : List ℕ} → MovedFirst i b → i < count * 4 → count ≤ by → (at + by + count) * 4 ≤ length l
+      → MovedFirst (i + 1) (set b (to + i) (getD b (at * 4 + i) 0))
+  first-next {i} {b} o h apart r =
       let up : to + i + 1 ≡ to + (i + 1) = omega arith in
       record {
         upto = omega arith;
@@ -78,9 +78,9 @@ module _ (at by count : ℕ) (l : List ℕ) where
         sofar = rw up at (over-up to (to + i) movedByte l (omega arith) (omega arith) (o .sofar) (unmoved to (to + i) i (o .sofar) (omega arith)) refl);
       }
 
-  pub up-end : {i : ℕ} {b : List ℕ} → MovedUp i b → count * 4 ≤ i → (at + by + count) * 4 ≤ length l
+  pub first-end : {i : ℕ} {b : List ℕ} → MovedFirst i b → count * 4 ≤ i → (at + by + count) * 4 ≤ length l
       → b ≡ change (within (at + by) (at + by + count)) (λ i _. dotAt l (i - by)) l
-  up-end {i} o h r = all-moved to (to + i) (o .sofar) refl (omega (arith, o .upto)) r
+  first-end {i} o h r = all-moved to (to + i) (o .sofar) refl (omega (arith, o .upto)) r
 
 -- ---- the dots moved, and then the paper before them
 

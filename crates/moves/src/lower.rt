@@ -9,11 +9,12 @@ use super::run::move_run;
 use colour::RGBA;
 use dots::fill_run;
 
-// From this many dots on, moving a picture by them in pieces is sooner done than all at once.
+// Measured: from this many dots on, pieces are sooner moved than all at once.
 const FAR: usize = 16384;
 
-// Pieces as long as the way that they go, the last first.
-fn move_far(buf: &mut [u8], n: usize, by: usize)
+// The n dots of a picture, `by` on. Where that is far they go in pieces as long as the way, so that
+// no piece overlaps where it goes; the last first, since each goes to where the one after it lay.
+fn move_on(buf: &mut [u8], n: usize, by: usize)
     requires { ⌜ (by + n) * 4 ≤ length (now buf) ⌝ }
     ensures { λ _. ⌜ now (buf .exit) ≡ change (within by (by + n)) (λ i _. dotAt (now (buf .entry)) (i - by)) (now (buf .entry)) ⌝ }
 {
@@ -33,6 +34,6 @@ pub fn move_down(buf: &mut [u8], n: usize, by: usize, paper: RGBA)
     requires { ⌜ (by + n) * 4 ≤ length (now buf) ⌝ }
     ensures { λ _. ⌜ now (buf .exit) ≡ loweredOn n by paper (now (buf .entry)) ⌝ }
 {
-    move_far(buf, n, by);
+    move_on(buf, n, by);
     fill_run(buf, 0, by, paper);
 }

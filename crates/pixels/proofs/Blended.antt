@@ -13,7 +13,7 @@ use Rattle.colour.specs.Choice.{if_then_else_}
 use Rattle.colour.specs.declared.RGBA.{RGBA}
 use Rattle.colour.specs.Channel.{blendByte}
 use Rattle.colour.specs.Colour.{rgba, blended}
-use Rattle.colour.proofs.Laws.{rgba-eq, blend-byte-full, blended-none, blended-full, blended-some}
+use Rattle.colour.proofs.Laws.{rgba-eq, blend-byte-none, blend-byte-full, blended-none, blended-full, blended-some}
 use Rattle.dots.specs.Dots.{dotAt, setDot, chan, drawn}
 use Rattle.dots.proofs.Laws.{each-byte, byte-of, length-change, change-picked, within-yes, run-none, run-turn, drawn-blended}
 use Rattle.dots.proofs.Bytes.{Over, over-none, over-step, over-change}
@@ -29,10 +29,6 @@ alphas-full p e = rw (eq-eqb (p .a) 255 e)
 pub alphas-some : (p : RGBA) → (p .a ≡ 255 → ⊥) → rgba (p .a) (p .a) (p .a) 0 ≡ alphas p
 unfolding alphas
 alphas-some p n = rw (ne-eqb (p .a) 255 n)
-
-blend-byte-none : (s c : ℕ) → blendByte s c 0 ≡ s
-unfolding blendByte
-blend-byte-none s c = omega arith
 
 -- the dot that the loop makes of s
 abbrev byBytes : RGBA → RGBA → RGBA

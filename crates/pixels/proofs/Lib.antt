@@ -1,4 +1,4 @@
-mod Plain
+mod Unmixed
 mod Runs
 mod Blended
 mod Unique

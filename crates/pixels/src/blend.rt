@@ -27,6 +27,7 @@ fn alphas(p: RGBA) -> RGBA
     }
 }
 
+// One for each byte of a pixel, so that the loop over bytes reads all three buffers alike.
 fn spread_alphas(m: &mut [u8], count: usize, pixels: &[u8], from: usize)
     requires { ⌜ (count * 4 ≤ length (now m)) × ((from + count) * 4 ≤ length (now pixels)) ⌝ }
     ensures { λ _. ⌜ now (m .exit) ≡ alphasOn (now (pixels .entry)) from count (now (m .entry)) ⌝ }
@@ -44,6 +45,7 @@ fn blend_some(buf: &mut [u8], at: usize, count: usize, pixels: &[u8], from: usiz
     requires { ⌜ (count ≤ 16) × ((at + count) * 4 ≤ length (now buf)) × ((from + count) * 4 ≤ length (now pixels)) ⌝ }
     ensures { λ _. ⌜ now (buf .exit) ≡ pixelsOn false (now (pixels .entry)) from at count (now (buf .entry)) ⌝ }
 {
+    // four bytes for each of 16 pixels
     let mut m = [0u8; 64];
     spread_alphas(&mut m, count, pixels, from);
     let to = at * 4;

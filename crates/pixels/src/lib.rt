@@ -9,12 +9,12 @@ ghost use Prim.Native.Nat.{_+_, _*_, _≤_};
 ghost use lib.ListN.{length};
 ghost use Rattle.pixels.specs.Pixels.{pixelsOn};
 use blend::blend_each;
-use cover::all_plain;
+use cover::all_unmixed;
 use cover::cover_each;
 use multiply::multiply_each;
 
-// Whether pixels are plain is told before they are blended, since that is sooner done than blending:
-// those of a bit image are.
+// Whether any pixel has to be mixed is told first, since that is sooner done than mixing: of a bit
+// image none has.
 pub fn put_run(buf: &mut [u8], at: usize, count: usize, pixels: &[u8], from: usize, multiply: bool)
     requires { ⌜ ((at + count) * 4 ≤ length (now buf)) × ((from + count) * 4 ≤ length (now pixels)) ⌝ }
     ensures { λ _. ⌜ now (buf .exit) ≡ pixelsOn multiply (now (pixels .entry)) from at count (now (buf .entry)) ⌝ }
@@ -23,7 +23,7 @@ pub fn put_run(buf: &mut [u8], at: usize, count: usize, pixels: &[u8], from: usi
         multiply_each(buf, at, count, pixels, from);
         return;
     }
-    if all_plain(pixels, from, count) {
+    if all_unmixed(pixels, from, count) {
         cover_each(buf, at, count, pixels, from);
         return;
     }

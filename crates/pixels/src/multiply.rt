@@ -8,7 +8,7 @@ use dots::draw_dot;
 use dots::load_dot;
 use dots::store_dot;
 
-// At every alpha alike, without a branch.
+// At every alpha alike, so that there is no branch on it.
 pub fn multiply_each(buf: &mut [u8], at: usize, count: usize, pixels: &[u8], from: usize)
     requires { ⌜ ((at + count) * 4 ≤ length (now buf)) × ((from + count) * 4 ≤ length (now pixels)) ⌝ }
     ensures { λ _. ⌜ now (buf .exit) ≡ pixelsOn true (now (pixels .entry)) from at count (now (buf .entry)) ⌝ }

@@ -13,11 +13,11 @@ same-length c = search needs
 returns : tie.Need-returns
 returns c = rw (c .before .before .before .before .if1 .taken) (c .before .before .multiply-each .ensures)
 
-all-plain-requires : tie.Need-all-plain-requires
-all-plain-requires c κs = search needs
+all-unmixed-requires : tie.Need-all-unmixed-requires
+all-unmixed-requires c κs = search needs
 
 cover-each-requires : tie.Need-cover-each-requires
-cover-each-requires c κs = (c .before .before .before .before .before .before .pre, sym (c .before .before .all-plain .ensures) ∙ c .before .if2 .taken)
+cover-each-requires c κs = (c .before .before .before .before .before .before .pre, sym (c .before .before .all-unmixed .ensures) ∙ c .before .if2 .taken)
 
 same-length-2 : tie.Need-same-length-2
 same-length-2 c = search needs
@@ -41,7 +41,7 @@ put-run-spec =
     multiply-each-requires
     same-length
     returns
-    all-plain-requires
+    all-unmixed-requires
     cover-each-requires
     same-length-2
     returns-2

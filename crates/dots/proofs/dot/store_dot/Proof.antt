@@ -15,7 +15,10 @@ same-length : tie.Need-same-length
 same-length c = search needs
 
 returns : tie.Need-returns
-returns c = c .before .before .set-dot .ensures ∙ ap (setDot (c .before .before .before .before .before .before .args .buf .now) (c .before .before .before .before .before .before .args .i)) (c .before .before .before .by-word .ensures)
+returns c =
+    let w = c .before .before .before in
+    let a = w .before .before .before .args in
+    c .before .before .set-dot .ensures ∙ ap (setDot (a .buf .now) (a .i)) (w .by-word .ensures)
 
 pub store-dot-spec : {M : Type 1} → statement M
 store-dot-spec = tie.close (tie.spec by-word-requires set-dot-requires same-length returns)

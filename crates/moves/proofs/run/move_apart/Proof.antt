@@ -1,12 +1,12 @@
 -- `moves::run::move_apart` meets its contract. Assumes nothing.
 use Prim.Native.Nat.{_-_}
-use Rattle.moves.proofs.Runs.{MovedUp, up-start, up-next, up-end}
+use Rattle.moves.proofs.Runs.{MovedFirst, first-start, first-next, first-end}
 use borrow.Author.Needs.{needs}
 use Rattle.moves.proofs.run.move_apart.Statement.{statement}
 use Rattle.moves.proofs.run.move_apart.Tie as tie
 
 abbrev Inv-loop : tie.InvT-loop
-Inv-loop buf₀ at by count from to end i₀ buf i = MovedUp at by count buf₀ i buf
+Inv-loop buf₀ at by count from to end i₀ buf i = MovedFirst at by count buf₀ i buf
 
 abbrev μ-loop : tie.MeasureT-loop
 μ-loop buf₀ at by count from to end i₀ buf i = end - i
@@ -24,7 +24,7 @@ mul-end : tie.Need-mul-end Inv-loop μ-loop
 mul-end c = search needs
 
 loop-holds : tie.Need-loop-holds Inv-loop μ-loop
-loop-holds c = up-start _ _ _ _
+loop-holds c = first-start _ _ _ _
 
 add-buf : tie.Need-add-buf Inv-loop μ-loop
 add-buf c = search needs
@@ -45,13 +45,13 @@ loop-less : tie.Need-loop-less Inv-loop μ-loop
 loop-less c = search needs
 
 loop-again : tie.Need-loop-again Inv-loop μ-loop
-loop-again c = up-next _ _ _ _ (c .before .before .loop .inv) (c .before .loop-test .taken) (c .before .before .before .pre .1) (c .before .before .before .pre .0)
+loop-again c = first-next _ _ _ _ (c .before .before .loop .inv) (c .before .loop-test .taken) (c .before .before .before .pre .1) (c .before .before .before .pre .0)
 
 same-length : tie.Need-same-length Inv-loop μ-loop
 same-length c = search needs
 
 returns : tie.Need-returns Inv-loop μ-loop
-returns c = up-end _ _ _ _ (c .before .loop .inv) (c .loop-test .left) (c .before .before .pre .0)
+returns c = first-end _ _ _ _ (c .before .loop .inv) (c .loop-test .left) (c .before .before .pre .0)
 
 pub move-apart-spec : {M : Type 1} → statement M
 move-apart-spec =

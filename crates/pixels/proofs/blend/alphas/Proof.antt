@@ -1,4 +1,4 @@
--- `pixels::alphas` meets its contract. Assumes nothing.
+-- `pixels::blend::alphas` meets its contract. Assumes nothing.
 use Rattle.pixels.proofs.Blended.{alphas-full, alphas-some}
 use Rattle.pixels.proofs.blend.alphas.Statement.{statement}
 use Rattle.pixels.proofs.blend.alphas.Tie as tie

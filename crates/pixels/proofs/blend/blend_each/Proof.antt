@@ -1,4 +1,4 @@
--- `pixels::blend_each` meets its contract. Assumes nothing.
+-- `pixels::blend::blend_each` meets its contract. Assumes nothing.
 use native.Mathlib.Omega.{arith}
 use mathlib.Core.Bool.{false}
 use Prim.Native.Nat.{_-_}

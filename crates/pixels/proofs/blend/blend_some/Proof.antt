@@ -1,4 +1,4 @@
--- `pixels::blend_some` meets its contract. Assumes nothing.
+-- `pixels::blend::blend_some` meets its contract. Assumes nothing.
 use native.Mathlib.Omega.{arith}
 use Prim.Native.Nat.{_-_}
 use Rattle.pixels.proofs.Blended.{Blends, blends-start, blends-next, blends-end}

@@ -1,4 +1,4 @@
--- `pixels::spread_alphas` meets its contract. Assumes nothing.
+-- `pixels::blend::spread_alphas` meets its contract. Assumes nothing.
 use native.Mathlib.Omega.{arith}
 use Prim.Native.Nat.{_-_}
 use borrow.Author.Needs.{needs}
@@ -34,7 +34,10 @@ loop-less : tie.Need-loop-less Inv-loop μ-loop
 loop-less c = omega arith
 
 loop-again : tie.Need-loop-again Inv-loop μ-loop
-loop-again c = alphas-next _ _ _ _ (omega arith) (c .before .before .before .before .before .before .before .loop .inv) (c .before .before .before .before .before .before .loop-test .taken) (c .before .before .before .before .before .load-dot .ensures) (c .before .before .before .alphas .ensures) (c .before .before .store-dot .ensures)
+loop-again c =
+    let a = c .before .before .before in
+    let g = a .before .before in
+    alphas-next _ _ _ _ (omega arith) (g .before .before .loop .inv) (g .before .loop-test .taken) (g .load-dot .ensures) (a .alphas .ensures) (c .before .before .store-dot .ensures)
 
 same-length : tie.Need-same-length Inv-loop μ-loop
 same-length c = omega arith

@@ -3,8 +3,8 @@ use native.Mathlib.Omega.{arith}
 use mathlib.Core.Bool.{false}
 use mathlib.Core.Path.{ap, _∙_}
 use Prim.Native.Nat.{_-_}
-use Rattle.pixels.specs.Pixels.{plain}
-use Rattle.pixels.proofs.Plain.{all-plain-at}
+use Rattle.pixels.specs.Steps.{unmixed}
+use Rattle.pixels.proofs.Unmixed.{all-unmixed-at}
 use Rattle.pixels.proofs.Runs.{Drawn, drawn-start, drawn-next, drawn-end}
 use Rattle.pixels.proofs.cover.cover_each.Statement.{statement}
 use Rattle.pixels.proofs.cover.cover_each.Tie as tie
@@ -31,7 +31,7 @@ load-dot-requires-2 : tie.Need-load-dot-requires-2 Inv-loop μ-loop
 load-dot-requires-2 c κs = omega arith
 
 cover-dot-requires : tie.Need-cover-dot-requires Inv-loop μ-loop
-cover-dot-requires c κs = ap plain (c .before .before .load-dot .ensures) ∙ all-plain-at _ _ _ _ (c .before .before .before .loop-test .taken) (c .before .before .before .before .before .before .before .pre .1)
+cover-dot-requires c κs = ap unmixed (c .before .before .load-dot .ensures) ∙ all-unmixed-at _ _ _ _ (c .before .before .before .loop-test .taken) (c .before .before .before .before .before .before .before .pre .1)
 
 add-store-dot : tie.Need-add-store-dot Inv-loop μ-loop
 add-store-dot c = omega arith
@@ -46,7 +46,12 @@ loop-less : tie.Need-loop-less Inv-loop μ-loop
 loop-less c = omega arith
 
 loop-again : tie.Need-loop-again Inv-loop μ-loop
-loop-again c = drawn-next _ _ _ _ _ _ (c .before .before .before .before .before .before .before .before .before .loop .inv) (c .before .before .before .before .before .before .before .before .loop-test .taken) (c .before .before .before .before .before .before .before .before .before .before .before .before .pre .0 .0) (c .before .before .before .before .before .before .before .load-dot .ensures) (c .before .before .before .before .before .load-dot2 .ensures) (c .before .before .before .before .cover-dot .ensures) (c .before .before .store-dot .ensures)
+loop-again c =
+    let d = c .before .before .before .before in
+    let g = d .before .before .before in
+    let h = g .before .before in
+    drawn-next _ _ _ _ _ _ (h .loop .inv) (g .before .loop-test .taken) (h .before .before .before .pre .0 .0)
+    (g .load-dot .ensures) (d .before .load-dot2 .ensures) (d .cover-dot .ensures) (c .before .before .store-dot .ensures)
 
 same-length : tie.Need-same-length Inv-loop μ-loop
 same-length c = omega arith

@@ -44,7 +44,12 @@ loop-less : tie.Need-loop-less Inv-loop μ-loop
 loop-less c = omega arith
 
 loop-again : tie.Need-loop-again Inv-loop μ-loop
-loop-again c = drawn-next _ _ _ _ _ _ (c .before .before .before .before .before .before .before .before .before .loop .inv) (c .before .before .before .before .before .before .before .before .loop-test .taken) (c .before .before .before .before .before .before .before .before .before .before .before .before .pre .0) (c .before .before .before .before .before .before .before .load-dot .ensures) (c .before .before .before .before .before .load-dot2 .ensures) (c .before .before .before .before .draw-dot .ensures) (c .before .before .store-dot .ensures)
+loop-again c =
+    let d = c .before .before .before .before in
+    let g = d .before .before .before in
+    let h = g .before .before in
+    drawn-next _ _ _ _ _ _ (h .loop .inv) (g .before .loop-test .taken) (h .before .before .before .pre .0)
+    (g .load-dot .ensures) (d .before .load-dot2 .ensures) (d .draw-dot .ensures) (c .before .before .store-dot .ensures)
 
 same-length : tie.Need-same-length Inv-loop μ-loop
 same-length c = omega arith

@@ -1,21 +1,21 @@
--- `pixels::cover::all_plain` meets its contract. Assumes nothing.
+-- `pixels::cover::all_unmixed` meets its contract. Assumes nothing.
 use native.Mathlib.Omega.{arith}
 use mathlib.Core.Path.{_≡_}
 use Prim.Native.Nat.{_-_, _≤_}
-use Rattle.pixels.specs.Pixels.{allPlain}
-use Rattle.pixels.proofs.Plain.{all-plain-none, all-plain-next}
+use Rattle.pixels.specs.Steps.{allUnmixed}
+use Rattle.pixels.proofs.Unmixed.{all-unmixed-none, all-unmixed-next}
 use borrow.Author.Needs.{needs}
-use Rattle.pixels.proofs.cover.all_plain.Statement.{statement}
-use Rattle.pixels.proofs.cover.all_plain.Tie as tie
+use Rattle.pixels.proofs.cover.all_unmixed.Statement.{statement}
+use Rattle.pixels.proofs.cover.all_unmixed.Tie as tie
 
 abbrev Inv-loop : tie.InvT-loop
-Inv-loop pixels from count others₀ i₀ others i = (i ≤ count) × (others ≡ allPlain pixels from i)
+Inv-loop pixels from count others₀ i₀ others i = (i ≤ count) × (others ≡ allUnmixed pixels from i)
 
 abbrev μ-loop : tie.MeasureT-loop
 μ-loop pixels from count others₀ i₀ others i = count - i
 
 loop-holds : tie.Need-loop-holds Inv-loop μ-loop
-loop-holds c = (omega arith, all-plain-none _ _)
+loop-holds c = (omega arith, all-unmixed-none _ _)
 
 add-load-dot : tie.Need-add-load-dot Inv-loop μ-loop
 add-load-dot c = omega arith
@@ -23,8 +23,8 @@ add-load-dot c = omega arith
 load-dot-requires : tie.Need-load-dot-requires Inv-loop μ-loop
 load-dot-requires c κs = omega arith
 
-still-plain-requires : tie.Need-still-plain-requires Inv-loop μ-loop
-still-plain-requires c κs = search needs
+still-unmixed-requires : tie.Need-still-unmixed-requires Inv-loop μ-loop
+still-unmixed-requires c κs = search needs
 
 add-i : tie.Need-add-i Inv-loop μ-loop
 add-i c = omega arith
@@ -33,13 +33,13 @@ loop-less : tie.Need-loop-less Inv-loop μ-loop
 loop-less c = omega arith
 
 loop-again : tie.Need-loop-again Inv-loop μ-loop
-loop-again c = (omega arith, all-plain-next _ _ _ (c .before .before .before .loop .inv .1) (c .before .load-dot .ensures) (c .still-plain .ensures))
+loop-again c = (omega arith, all-unmixed-next _ _ _ (c .before .before .before .loop .inv .1) (c .before .load-dot .ensures) (c .still-unmixed .ensures))
 
 returns : tie.Need-returns Inv-loop μ-loop
 returns c = let e : c .before .loop .i ≡ c .before .before .before .args .count = omega arith in rw e at (c .before .loop .inv .1)
 
-pub all-plain-spec : {M : Type 1} → statement M
-all-plain-spec =
+pub all-unmixed-spec : {M : Type 1} → statement M
+all-unmixed-spec =
     tie.close
     (tie.spec
     Inv-loop
@@ -47,7 +47,7 @@ all-plain-spec =
     loop-holds
     add-load-dot
     load-dot-requires
-    still-plain-requires
+    still-unmixed-requires
     add-i
     loop-less
     loop-again

@@ -1,8 +1,8 @@
--- `moves::lower::move_far` meets its contract. Assumes nothing.
+-- `moves::lower::move_on` meets its contract. Assumes nothing.
 use native.Mathlib.Omega.{arith}
 use Rattle.moves.proofs.Pieces.{Down, down-start, down-next, down-end}
-use Rattle.moves.proofs.lower.move_far.Statement.{statement}
-use Rattle.moves.proofs.lower.move_far.Tie as tie
+use Rattle.moves.proofs.lower.move_on.Statement.{statement}
+use Rattle.moves.proofs.lower.move_on.Tie as tie
 
 abbrev Inv-loop : tie.InvT-loop
 Inv-loop buf₀ n by i₀ buf i = Down n by buf₀ i buf
@@ -45,8 +45,8 @@ same-length-2 c = omega arith
 returns-2 : tie.Need-returns-2 Inv-loop μ-loop
 returns-2 c = down-end _ _ _ (down-next _ _ _ 0 _ (c .before .before .before .before .before .loop .inv) (omega arith) (c .before .before .move-apart2 .ensures))
 
-pub move-far-spec : {M : Type 1} → statement M
-move-far-spec =
+pub move-on-spec : {M : Type 1} → statement M
+move-on-spec =
     tie.close
     (tie.spec
     Inv-loop
