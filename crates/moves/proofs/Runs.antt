@@ -3,7 +3,6 @@ use mathlib.Core.Path.{_≡_, refl, ap, _∙_}
 use mathlib.Core.List.{List}
 use mathlib.Core.Bool.{_||_}
 use Prim.Native.Nat.{ℕ, _+_, _-_, _*_, _/_, _%_, _≤_, _<_}
-use native.Mathlib.Nat.{add-zero}
 use native.Mathlib.Omega.{arith}
 use lib.ListN.{length, getD, set, length-set}
 use lib.Dec.{ltb}
@@ -16,7 +15,7 @@ use Rattle.moves.specs.Parts.{over}
 use Rattle.moves.specs.Moves.{loweredOn, copiedTo, rgbTo}
 use Rattle.moves.proofs.Bytes.{over-empty, over-up, over-down, over-kept, over-change}
 
--- ---- `count` dots from dot `at` move `by` on: the last bytes are moved, down to byte i of them, or the first, up to it
+-- ---- `count` dots from dot `at` move `by` on: the last bytes are moved, down to byte i of them
 
 module _ (at by count : ℕ) (l : List ℕ) where
   abbrev to : ℕ
@@ -24,17 +23,6 @@ module _ (at by count : ℕ) (l : List ℕ) where
 
   abbrev movedByte : ℕ → ℕ
   movedByte j = getD l (j - by * 4) 0
-
-  -- a byte that is still to be moved, where those from lo to hi are
-  unmoved : (lo hi i : ℕ) {b : List ℕ} → b ≡ over (within lo hi) movedByte l → at * 4 + i < lo → getD b (at * 4 + i) 0 ≡ movedByte (to + i)
-  unmoved lo hi i e h =
-      ap (λ (x : List ℕ). getD x (at * 4 + i) 0) e ∙ over-kept _ movedByte l (at * 4 + i) (within-low lo hi (at * 4 + i) h) ∙ ap (λ (n : ℕ). getD l n 0) (omega arith)
-
-  all-moved : (lo hi : ℕ) {b : List ℕ} → b ≡ over (within lo hi) movedByte l → lo ≡ to → hi ≡ to + count * 4 → (at + by + count) * 4 ≤ length l
-      → b ≡ change (within (at + by) (at + by + count)) (λ i _. dotAt l (i - by)) l
-  all-moved lo hi e low high r =
-      let up : hi ≡ (at + by + count) * 4 = omega arith in
-      e ∙ rw (low, up) (over-change (at + by) (at + by + count) by l l (omega arith) r)
 
   pub record Moved (i : ℕ) (b : List ℕ) : Type 0 where
     pub upto : i ≤ count * 4
@@ -48,59 +36,43 @@ module _ (at by count : ℕ) (l : List ℕ) where
       → Moved (i - 1) (set b (to + (i - 1)) (getD b (at * 4 + (i - 1)) 0))
   moved-next {i} {b} o h r =
       let up : to + i ≡ to + (i - 1) + 1 = omega arith in
+      let old : getD b (at * 4 + (i - 1)) 0 ≡ getD l (at * 4 + (i - 1)) 0 =
+      ap (λ (x : List ℕ). getD x (at * 4 + (i - 1)) 0) (o .sofar)
+      ∙ over-kept _ movedByte l (at * 4 + (i - 1)) (within-low (to + i) (to + count * 4) (at * 4 + (i - 1)) (omega arith)) in
       record {
         upto = omega (arith, o .upto);
         same = length-set b _ _ ∙ o .same;
         sofar =
             over-down (to + (i - 1)) (to + count * 4) movedByte l (omega (arith, o .upto)) (omega arith)
-            (rw up at (o .sofar)) (unmoved (to + i) (to + count * 4) (i - 1) (o .sofar) (omega arith)) refl;
+            (rw up at (o .sofar)) (old ∙ ap (λ (n : ℕ). getD l n 0) (omega arith)) refl;
       }
 
   pub moved-end : {i : ℕ} {b : List ℕ} → Moved i b → i ≤ 0 → (at + by + count) * 4 ≤ length l
       → b ≡ change (within (at + by) (at + by + count)) (λ i _. dotAt l (i - by)) l
-  moved-end {i} o h r = all-moved (to + i) (to + count * 4) (o .sofar) (omega arith) refl r
-
-  pub record MovedFirst (i : ℕ) (b : List ℕ) : Type 0 where
-    pub upto : i ≤ count * 4
-    pub same : length b ≡ length l
-    pub sofar : b ≡ over (within to (to + i)) movedByte l
-
-  pub first-start : MovedFirst 0 l
-  first-start = record { upto = omega arith; same = refl; sofar = rw add-zero (over-empty to movedByte l) }
-
-  pub first-next : {i : ℕ} {b : List ℕ} → MovedFirst i b → i < count * 4 → count ≤ by → (at + by + count) * 4 ≤ length l
-      → MovedFirst (i + 1) (set b (to + i) (getD b (at * 4 + i) 0))
-  first-next {i} {b} o h apart r =
-      let up : to + i + 1 ≡ to + (i + 1) = omega arith in
-      record {
-        upto = omega arith;
-        same = length-set b _ _ ∙ o .same;
-        sofar = rw up at (over-up to (to + i) movedByte l (omega arith) (omega arith) (o .sofar) (unmoved to (to + i) i (o .sofar) (omega arith)) refl);
-      }
-
-  pub first-end : {i : ℕ} {b : List ℕ} → MovedFirst i b → count * 4 ≤ i → (at + by + count) * 4 ≤ length l
-      → b ≡ change (within (at + by) (at + by + count)) (λ i _. dotAt l (i - by)) l
-  first-end {i} o h r = all-moved to (to + i) (o .sofar) refl (omega (arith, o .upto)) r
+  moved-end {i} o h r =
+      let low : to + i ≡ (at + by) * 4 = omega arith in
+      let high : to + count * 4 ≡ (at + by + count) * 4 = omega arith in
+      o .sofar ∙ rw (low, high) (over-change (at + by) (at + by + count) by l l (omega arith) r)
 
 -- ---- the dots moved, and then the paper before them
 
 module _ (n by : ℕ) (paper : RGBA) (l : List ℕ) where
-  pub lowered-two : {b m : List ℕ} → b ≡ change (within by (by + n)) (λ i _. dotAt l (i - by)) l
+  pub lowered-two : {b m : List ℕ} → b ≡ change (within (0 + by) (0 + by + n)) (λ i _. dotAt l (i - by)) l
       → m ≡ change (within 0 (0 + by)) (λ _ _. paper) b → m ≡ loweredOn n by paper l
   unfolding loweredOn
   lowered-two eb em = em ∙ rw eb (change-then _ _ _ _ l ∙ change-same _ _ _ _ l (λ i c. at i (place by (by + n) i)))
     where
       at : (i : ℕ) → Place by (by + n) i
-          → (if within by (by + n) i || within 0 (0 + by) i
+          → (if within (0 + by) (0 + by + n) i || within 0 (0 + by) i
           then (if within 0 (0 + by) i then paper else dotAt l (i - by))
           else dotAt l i)
           ≡ (if within 0 (by + n) i then (if ltb i by then paper else dotAt l (i - by)) else dotAt l i)
       at i (before u) =
-          rw (within-low by (by + n) i u, within-yes 0 (0 + by) i (omega arith) (omega arith), within-yes 0 (by + n) i (omega arith) (omega arith), lt-ltb i by u)
+          rw (within-low (0 + by) (0 + by + n) i (omega arith), within-yes 0 (0 + by) i (omega arith) (omega arith), within-yes 0 (by + n) i (omega arith) (omega arith), lt-ltb i by u)
       at i (inside u v) =
-          rw (within-yes by (by + n) i u v, within-high 0 (0 + by) i (omega arith), within-yes 0 (by + n) i (omega arith) v, le-ltb i by u)
+          rw (within-yes (0 + by) (0 + by + n) i (omega arith) (omega arith), within-high 0 (0 + by) i (omega arith), within-yes 0 (by + n) i (omega arith) v, le-ltb i by u)
       at i (past u v) =
-          rw (within-high by (by + n) i v, within-high 0 (0 + by) i (omega arith), within-high 0 (by + n) i v)
+          rw (within-high (0 + by) (0 + by + n) i (omega arith), within-high 0 (0 + by) i (omega arith), within-high 0 (by + n) i v)
 
 -- ---- n dots are copied: the first i bytes are
 

@@ -18,18 +18,3 @@ pub fn move_run(buf: &mut [u8], at: usize, by: usize, count: usize)
         buf[to + i] = buf[from + i];
     }
 }
-
-// Dots that go to where none of them lies, from the first byte to the last, as caches foresee best.
-pub fn move_apart(buf: &mut [u8], at: usize, by: usize, count: usize)
-    requires { ⌜ ((at + by + count) * 4 ≤ length (now buf)) × (count ≤ by) ⌝ }
-    ensures { λ _. ⌜ now (buf .exit) ≡ change (within (at + by) (at + by + count)) (λ i _. dotAt (now (buf .entry)) (i - by)) (now (buf .entry)) ⌝ }
-{
-    let from = at * 4;
-    let to = (at + by) * 4;
-    let end = count * 4;
-    let mut i = 0;
-    while i < end {
-        buf[to + i] = buf[from + i];
-        i += 1;
-    }
-}
