@@ -76,31 +76,31 @@ over-down i end F l h r eb ev em =
     em ∙ rw (ev, eb)
     (over-step _ _ F l i (omega arith) (λ j. within-then i (i + 1) end j (omega arith) (omega arith) ∙ or-comm (within i (i + 1) j) (within (i + 1) end j)))
 
--- ---- the one place where bytes meet dots: the dots from lo to hi are those of s, d dots before them
+-- ---- the one place where bytes meet dots: the dots from lo to hi are those of s from dot e on
 
-pub over-change : (lo hi d : ℕ) (s l : List ℕ) → d ≤ lo → hi * 4 ≤ length l
-    → over (within (lo * 4) (hi * 4)) (λ j. getD s (j - d * 4) 0) l ≡ change (within lo hi) (λ i _. dotAt s (i - d)) l
-over-change lo hi d s l h r =
+pub over-change : (lo hi e : ℕ) (s l : List ℕ) → hi * 4 ≤ length l
+    → over (within (lo * 4) (hi * 4)) (λ j. getD s (e * 4 + (j - lo * 4)) 0) l ≡ change (within lo hi) (λ i _. dotAt s (e + (i - lo))) l
+over-change lo hi e s l r =
     change-ext (within lo hi) _ l m (length-over p F l) (λ i c. at i (place lo hi i)) (λ i c. kept i (λ j u v. within-high (lo * 4) (hi * 4) j (omega arith)))
   where
     p : ℕ → Bool
     p = within (lo * 4) (hi * 4)
 
     F : ℕ → ℕ
-    F j = getD s (j - d * 4) 0
+    F j = getD s (e * 4 + (j - lo * 4)) 0
 
     m : List ℕ
     m = over p F l
 
     kept : (i : ℕ) → ((j : ℕ) → i * 4 ≤ j → j < i * 4 + 4 → p j ≡ false) → dotAt m i ≡ dotAt l i
-    kept i off = dot-of m i (dotAt l i) (λ j k b e. over-kept p F l j (off j (omega arith) (omega arith)) ∙ byte-of l i j k b e)
+    kept i off = dot-of m i (dotAt l i) (λ j k b q. over-kept p F l j (off j (omega arith) (omega arith)) ∙ byte-of l i j k b q)
 
-    at : (i : ℕ) → Place lo hi i → dotAt m i ≡ (if within lo hi i then dotAt s (i - d) else dotAt l i)
+    at : (i : ℕ) → Place lo hi i → dotAt m i ≡ (if within lo hi i then dotAt s (e + (i - lo)) else dotAt l i)
     at i (before u) = rw (within-low lo hi i u) (kept i (λ j v w. within-low (lo * 4) (hi * 4) j (omega arith)))
     at i (past u v) = rw (within-high lo hi i v) (kept i (λ j w x. within-high (lo * 4) (hi * 4) j (omega arith)))
     at i (inside u v) =
         rw (within-yes lo hi i u v)
-        (dot-of m i (dotAt s (i - d))
-        (λ j k b e.
+        (dot-of m i (dotAt s (e + (i - lo)))
+        (λ j k b q.
         over-picked p F l j (within-yes (lo * 4) (hi * 4) j (omega arith) (omega arith)) (omega arith)
-        ∙ byte-of s (i - d) (j - d * 4) k b (omega arith)))
+        ∙ byte-of s (e + (i - lo)) (e * 4 + (j - lo * 4)) k b (omega arith)))

@@ -3,6 +3,7 @@ pub mod Turns
 mod Bytes
 mod Runs
 mod Rows
+mod Pieces
 mod Rects
 mod Strips
 mod Unique

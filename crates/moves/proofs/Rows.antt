@@ -80,7 +80,7 @@ module _ (w wide left r : ℕ) (paper : RGBA) (l : List ℕ) where
 
 -- ---- a turn of a loop from the last dots to the first: those from lo to i, by f, which does to them what g says
 
-run-back : (lo i hi : ℕ) (f g : ℕ → RGBA → RGBA) (l : List ℕ) → lo ≤ i → i ≤ hi → ((k : ℕ) → lo ≤ k → k < i → (d : RGBA) → f k d ≡ g k d)
+pub run-back : (lo i hi : ℕ) (f g : ℕ → RGBA → RGBA) (l : List ℕ) → lo ≤ i → i ≤ hi → ((k : ℕ) → lo ≤ k → k < i → (d : RGBA) → f k d ≡ g k d)
     → {b m : List ℕ} → b ≡ change (within i hi) g l → m ≡ change (within lo i) f b → m ≡ change (within lo hi) g l
 run-back lo i hi f g l h k same {b} eb em =
     em ∙ change-by _ f g b (λ n t. let w = within-true lo i n t in same n (w .0) (w .1) _)

@@ -3,6 +3,7 @@ use mathlib.Core.Path.{_≡_, refl, ap, _∙_}
 use mathlib.Core.List.{List}
 use mathlib.Core.Bool.{_||_}
 use Prim.Native.Nat.{ℕ, _+_, _-_, _*_, _/_, _%_, _≤_, _<_}
+use native.Mathlib.Nat.{add-zero}
 use native.Mathlib.Omega.{arith}
 use lib.ListN.{length, getD, set, length-set}
 use lib.Dec.{ltb}
@@ -10,7 +11,7 @@ use borrow.Author.Tests.{lt-ltb, le-ltb}
 use Rattle.colour.specs.Choice.{if_then_else_}
 use Rattle.colour.specs.declared.RGBA.{RGBA}
 use Rattle.dots.specs.Dots.{dotAt, chan, change, within}
-use Rattle.dots.proofs.Laws.{change-by, change-same, change-then, Place, before, inside, past, place, within-yes, within-low, within-high}
+use Rattle.dots.proofs.Laws.{change-by, change-same, change-then, Place, before, inside, past, place, within-yes, within-low, within-high, within-true}
 use Rattle.moves.specs.Parts.{over}
 use Rattle.moves.specs.Moves.{loweredOn, copiedTo, rgbTo}
 use Rattle.moves.proofs.Bytes.{over-empty, over-up, over-down, over-kept, over-change}
@@ -22,7 +23,7 @@ module _ (at by count : ℕ) (l : List ℕ) where
   to = (at + by) * 4
 
   abbrev movedByte : ℕ → ℕ
-  movedByte j = getD l (j - by * 4) 0
+  movedByte j = getD l (at * 4 + (j - to)) 0
 
   pub record Moved (i : ℕ) (b : List ℕ) : Type 0 where
     pub upto : i ≤ count * 4
@@ -52,55 +53,69 @@ module _ (at by count : ℕ) (l : List ℕ) where
   moved-end {i} o h r =
       let low : to + i ≡ (at + by) * 4 = omega arith in
       let high : to + count * 4 ≡ (at + by + count) * 4 = omega arith in
-      o .sofar ∙ rw (low, high) (over-change (at + by) (at + by + count) by l l (omega arith) r)
+      o .sofar ∙ rw (low, high)
+      (over-change (at + by) (at + by + count) at l l r
+      ∙ change-by _ _ _ l (λ j t. let w = within-true (at + by) (at + by + count) j t in ap (dotAt l) (omega arith)))
 
 -- ---- the dots moved, and then the paper before them
 
 module _ (n by : ℕ) (paper : RGBA) (l : List ℕ) where
-  pub lowered-two : {b m : List ℕ} → b ≡ change (within (0 + by) (0 + by + n)) (λ i _. dotAt l (i - by)) l
+  pub lowered-two : {b m : List ℕ} → b ≡ change (within by (by + n)) (λ i _. dotAt l (i - by)) l
       → m ≡ change (within 0 (0 + by)) (λ _ _. paper) b → m ≡ loweredOn n by paper l
   unfolding loweredOn
   lowered-two eb em = em ∙ rw eb (change-then _ _ _ _ l ∙ change-same _ _ _ _ l (λ i c. at i (place by (by + n) i)))
     where
       at : (i : ℕ) → Place by (by + n) i
-          → (if within (0 + by) (0 + by + n) i || within 0 (0 + by) i
+          → (if within by (by + n) i || within 0 (0 + by) i
           then (if within 0 (0 + by) i then paper else dotAt l (i - by))
           else dotAt l i)
           ≡ (if within 0 (by + n) i then (if ltb i by then paper else dotAt l (i - by)) else dotAt l i)
       at i (before u) =
-          rw (within-low (0 + by) (0 + by + n) i (omega arith), within-yes 0 (0 + by) i (omega arith) (omega arith), within-yes 0 (by + n) i (omega arith) (omega arith), lt-ltb i by u)
+          rw (within-low by (by + n) i u, within-yes 0 (0 + by) i (omega arith) (omega arith), within-yes 0 (by + n) i (omega arith) (omega arith), lt-ltb i by u)
       at i (inside u v) =
-          rw (within-yes (0 + by) (0 + by + n) i (omega arith) (omega arith), within-high 0 (0 + by) i (omega arith), within-yes 0 (by + n) i (omega arith) v, le-ltb i by u)
+          rw (within-yes by (by + n) i u v, within-high 0 (0 + by) i (omega arith), within-yes 0 (by + n) i (omega arith) v, le-ltb i by u)
       at i (past u v) =
-          rw (within-high (0 + by) (0 + by + n) i (omega arith), within-high 0 (0 + by) i (omega arith), within-high 0 (by + n) i v)
+          rw (within-high by (by + n) i v, within-high 0 (0 + by) i (omega arith), within-high 0 (by + n) i v)
 
--- ---- n dots are copied: the first i bytes are
+-- ---- n dots from dot `from` of src on are copied to those from dot `to` on: the first i bytes are
 
-module _ (n : ℕ) (src l : List ℕ) where
+module _ (src : List ℕ) (from : ℕ) (l : List ℕ) (to n : ℕ) where
   abbrev copiedByte : ℕ → ℕ
-  copiedByte j = getD src (j - 0) 0
+  copiedByte j = getD src (from * 4 + (j - to * 4)) 0
 
   pub record Copied (i : ℕ) (b : List ℕ) : Type 0 where
     pub upto : i ≤ n * 4
     pub same : length b ≡ length l
-    pub sofar : b ≡ over (within 0 i) copiedByte l
+    pub sofar : b ≡ over (within (to * 4) (to * 4 + i)) copiedByte l
 
   pub copied-start : Copied 0 l
-  copied-start = record { upto = omega arith; same = refl; sofar = over-empty 0 copiedByte l }
+  copied-start = record { upto = omega arith; same = refl; sofar = rw add-zero (over-empty (to * 4) copiedByte l) }
 
-  pub copied-next : {i : ℕ} {b : List ℕ} → Copied i b → i < n * 4 → n * 4 ≤ length l → Copied (i + 1) (set b i (getD src i 0))
+  pub copied-next : {i : ℕ} {b : List ℕ} → Copied i b → i < n * 4 → (to + n) * 4 ≤ length l
+      → Copied (i + 1) (set b (to * 4 + i) (getD src (from * 4 + i) 0))
   copied-next {i} {b} o h r =
+      let up : to * 4 + i + 1 ≡ to * 4 + (i + 1) = omega arith in
+      let own : from * 4 + i ≡ from * 4 + (to * 4 + i - to * 4) = omega arith in
       record {
         upto = omega arith;
         same = length-set b _ _ ∙ o .same;
-        sofar = over-up 0 i copiedByte l (omega arith) (omega arith) (o .sofar) (ap (λ (n : ℕ). getD src n 0) (omega arith)) refl;
+        sofar = rw up at (over-up (to * 4) (to * 4 + i) copiedByte l (omega arith) (omega arith) (o .sofar) (ap (λ (k : ℕ). getD src k 0) own) refl);
       }
 
-  pub copied-end : {i : ℕ} {b : List ℕ} → Copied i b → n * 4 ≤ i → n * 4 ≤ length l → b ≡ copiedTo n src l
-  unfolding copiedTo
+  pub copied-end : {i : ℕ} {b : List ℕ} → Copied i b → n * 4 ≤ i → (to + n) * 4 ≤ length l
+      → b ≡ change (within to (to + n)) (λ k _. dotAt src (from + (k - to))) l
   copied-end {i} o h r =
-      let e : i ≡ n * 4 = omega (arith, o .upto) in
-      o .sofar ∙ rw e (over-change 0 n 0 src l (omega arith) r ∙ change-by _ _ _ l (λ i t. ap (dotAt src) (omega arith)))
+      let high : to * 4 + i ≡ (to + n) * 4 = omega (arith, o .upto) in
+      o .sofar ∙ rw high (over-change to (to + n) from src l r)
+
+pub copied-first : (n : ℕ) (src l : List ℕ) → change (within 0 (0 + n)) (λ k _. dotAt src (0 + (k - 0))) l ≡ copiedTo n src l
+unfolding copiedTo
+copied-first n src l =
+    change-same _ _ _ _ l
+    (λ i c.
+    let end : 0 + n ≡ n = omega arith in
+    let own : 0 + (i - 0) ≡ i = omega arith in
+    rw (end, own))
 
 -- ---- n dots are written as r, g, b: the first k are
 

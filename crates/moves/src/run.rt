@@ -3,6 +3,7 @@ ghost use mathlib.Core.Path.{_≡_};
 ghost use Prim.Native.Nat.{_+_, _-_, _*_, _≤_};
 ghost use lib.ListN.{length};
 ghost use Rattle.dots.specs.Dots.{dotAt, change, within};
+use super::copy::copy_run;
 
 // From the last byte to the first, so that the dots may overlap those that they go to; and bytes in
 // a row become vectors.
@@ -17,4 +18,30 @@ pub fn move_run(buf: &mut [u8], at: usize, by: usize, count: usize)
         i -= 1;
         buf[to + i] = buf[from + i];
     }
+}
+
+// The dots of a block.
+const BLOCK: usize = 1024;
+
+// A block of dots. The compiler leaves the array out and calls the C library for the one move.
+fn move_block(buf: &mut [u8], at: usize, by: usize)
+    requires { ⌜ (at + by + 1024) * 4 ≤ length (now buf) ⌝ }
+    ensures { λ _. ⌜ now (buf .exit) ≡ change (within (at + by) (at + by + 1024)) (λ i _. dotAt (now (buf .entry)) (i - by)) (now (buf .entry)) ⌝ }
+{
+    let mut block = [0u8; 4096];
+    copy_run(buf, at, &mut block, 0, BLOCK);
+    copy_run(&block, 0, buf, at + by, BLOCK);
+}
+
+// Dots that go to where none of them lies, block by block, from the first to the last.
+pub(crate) fn move_apart(buf: &mut [u8], at: usize, by: usize, count: usize)
+    requires { ⌜ ((at + by + count) * 4 ≤ length (now buf)) × (count ≤ by) ⌝ }
+    ensures { λ _. ⌜ now (buf .exit) ≡ change (within (at + by) (at + by + count)) (λ i _. dotAt (now (buf .entry)) (i - by)) (now (buf .entry)) ⌝ }
+{
+    let mut i = 0;
+    while count - i >= BLOCK {
+        move_block(buf, at + i, by);
+        i += BLOCK;
+    }
+    move_run(buf, at + i, by, count - i);
 }
