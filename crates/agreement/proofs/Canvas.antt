@@ -68,7 +68,7 @@ module _ (s : List ℕ) (W H : ℕ) (paper : RGBA) (l : List ℕ) (some : 1 ≤ 
   -- ---- a put of all its pixels
 
   put-number : (x y w h : ℕ) → rectRefusal t x y w h (length l) ≡ first (dropping.putRefusal W H x y w h) (roomRefusal W (max H (y + h)) (length l))
-  unfolding dropping.putRefusal dropping.tallRefusal tallRefusal sideRefusal rowsRefusal
+  unfolding dropping.putRefusal sideRefusal rowsRefusal
   put-number x y w h =
       rect-grown t refl x y w h (length l) sound
       ∙ sym (step (ltb limit w || ltb limit h) _ _ (λ e. omega arith) ∙ ap (first (sideRefusal w h)) (step (leb W x) _ _ (λ e. omega arith)))
@@ -109,8 +109,8 @@ module _ (s : List ℕ) (W H : ℕ) (paper : RGBA) (l : List ℕ) (some : 1 ≤ 
 
   -- ---- a margin
 
-  margin-number : (m : ℕ) → marginRefusal W H m (length l) ≡ first (dropping.tallRefusal (H + m)) (roomRefusal W (H + m) (length l))
-  unfolding marginRefusal dropping.tallRefusal tallRefusal
+  margin-number : (m : ℕ) → marginRefusal W H m (length l) ≡ first (tallRefusal (H + m)) (roomRefusal W (H + m) (length l))
+  unfolding marginRefusal
   margin-number m = ap (λ (k : ℕ). first k (roomRefusal W (H + m) (length l))) (sym (first-none _ _ sound))
 
   margin-same : (out : List ℕ) (m : ℕ) → Same out (Margin m)
@@ -120,7 +120,7 @@ module _ (s : List ℕ) (W H : ℕ) (paper : RGBA) (l : List ℕ) (some : 1 ≤ 
   -- ---- a flip
 
   flip-number : (x y w h : ℕ) → flipRefusal t x y w h (length l) ≡ first (dropping.flipRefusal W H x y w h) (roomRefusal W (max H (y + h)) (length l))
-  unfolding flipRefusal flipTall emptyRefusal acrossRefusal dropping.flipRefusal dropping.tallRefusal tallRefusal rowsRefusal
+  unfolding flipRefusal flipTall emptyRefusal acrossRefusal dropping.flipRefusal rowsRefusal
   flip-number x y w h =
       sym (first-none _ _ sound)
       ∙ sym (step (eqb w 0 || eqb h 0) _ _ (λ e. omega arith) ∙ ap (first (emptyRefusal w h)) (step (ltb W (x + w)) _ _ (λ e. omega arith)))

@@ -9,6 +9,7 @@ use lib.Dec.{leb}
 use Rattle.numbers.specs.Numbers.{offPaper}
 use Rattle.colour.specs.Channel.{blendByte}
 use Rattle.colour.specs.Colour.{blendedAt}
+use Rattle.colour.proofs.Tests.{and-both}
 use Rattle.dots.specs.Dots.{within, drawn}
 use Rattle.bits.specs.Bits.{bitAlpha}
 use Rattle.images.specs.Formats.{alphaOf, bytesOf}
@@ -16,9 +17,9 @@ use Rattle.images.specs.Stretching.{factor, pixelOf, isLarge}
 use Rattle.areas.specs.Areas.{inArea}
 use Rattle.job.specs.Records.{le16, le32, rgbaAt, recordAt, one, upTo, records, Bytes}
 use Rattle.job.specs.Commands.{soundPaper, soundCommand, soundCommands, soundRecords, sound, commandAt, commandsIn, afterPaper, commands}
-use Rattle.job.specs.Dropping.{tallRefusal, putRefusal, imageRefusal, refusal, grown, next, heightFrom, keptFrom, droppedFrom, jobHeight, keptOf, jobDropped}
+use Rattle.refusals.specs.Refusals.{tallRefusal}
+use Rattle.job.specs.Dropping.{putRefusal, imageRefusal, refusal, grown, next, heightFrom, keptFrom, droppedFrom, jobHeight, keptOf, jobDropped}
 use Rattle.plan.specs.Plan.{isFlip, hasFlip}
-use Rattle.job.proofs.Soundness.{and-both}
 use Rattle.runs.specs.Pictures.{withImage, withMargin, after, afterAll}
 use Rattle.runs.specs.Run.{runPicture}
 use Rattle.agreement.specs.Agreement.{Plannable}

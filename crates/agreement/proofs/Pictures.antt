@@ -4,6 +4,7 @@ use mathlib.Core.Path.{_≡_, ap, sym, _∙_}
 use mathlib.Core.List.{List, [], _∷_}
 use mathlib.Core.Bool.{false, true≢false}
 use Rattle.colour.specs.declared.RGBA.{RGBA}
+use Rattle.colour.proofs.Tests.{neither}
 use Rattle.images.specs.Stretching.{factor}
 use Rattle.job.specs.declared.commands.Command.{Command}
 use Rattle.job.specs.declared.commands.Command.the-variants.{Rectangle, Image, Margin, Flip}
@@ -14,7 +15,6 @@ use Rattle.entries.specs.declared.Entry.{Entry}
 use Rattle.entries.specs.Entries.{rectangleEntry, imageEntry, entryOn}
 use Rattle.plan.specs.Plan.{lower, margins, entriesOf, isFlip, hasFlip}
 use Rattle.rows.specs.Rows.{entriesOn}
-use Rattle.refusals.proofs.Codes.{neither}
 use Rattle.runs.specs.Pictures.{Picture, withMargin, after, afterAll}
 use Rattle.runs.specs.Run.{runPicture}
 use Rattle.runs.proofs.Pictures.{rectangle-after, image-after}

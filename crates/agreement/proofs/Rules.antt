@@ -7,6 +7,7 @@ use native.Mathlib.Omega.{arith}
 use borrow.Author.Tests.{le-leb, leb-true}
 use lib.Dec.{leb}
 use lib.ListN.{length}
+use Rattle.colour.proofs.Tests.{and-both}
 use Rattle.images.specs.Stretching.{factor}
 use Rattle.job.specs.declared.commands.Command.{Command}
 use Rattle.job.specs.declared.commands.Command.the-variants.{Rectangle, Image, Margin, Flip}
@@ -14,7 +15,7 @@ use Rattle.job.specs.Commands.{paperWidth, soundMode, commands}
 use Rattle.job.specs.Dropping.{grown, keptOf, jobHeight}
 use Rattle.job.proofs.Reasons.{rectangle-kept, stretched-kept}
 use Rattle.job.proofs.Folds.{Keeps, none, keep, drop, keeps, keeps-fits}
-use Rattle.job.proofs.Soundness.{and-both, sane-rectangle, sane-image, AllSane, sane-more}
+use Rattle.job.proofs.Soundness.{sane-rectangle, sane-image, AllSane, sane-more}
 use Rattle.job.proofs.Walk.{Good, commands-sane}
 use Rattle.entries.specs.declared.Entry.{Entry}
 use Rattle.entries.specs.Entries.{rectangleEntry, imageEntry, goodStretch, goodImage, goodKind, goodEntry}

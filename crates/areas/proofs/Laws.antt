@@ -2,13 +2,14 @@
 use mathlib.Core.Path.{_≡_, refl, sym, ap, _∙_}
 use mathlib.Core.Logic.{_⊎_, inl, inr}
 use mathlib.Core.List.{List}
-use mathlib.Core.Bool.{Bool, true, false, _&&_, _||_, and-true, and-false, and-or-distrib-left, true≢false}
+use mathlib.Core.Bool.{Bool, true, false, _&&_, _||_, and-true, and-false, and-or-distrib-left}
 use Prim.Native.Nat.{ℕ, _+_, _-_, _*_, _/_, _%_, _≤_, _<_}
 use native.Mathlib.Nat.{div-lt-iff-lt-mul, le-div-iff-mul-le, div-add-mod', le-mul-of-pos-right, mul-le-mul, mul-le-mul-right, mul-comm, add-mul}
 use native.Mathlib.Omega.{arith}
 use lib.ListN.{length, getD}
 use Rattle.colour.specs.Choice.{if_then_else_}
 use Rattle.colour.specs.declared.RGBA.{RGBA}
+use Rattle.colour.proofs.Tests.{and-both}
 use Rattle.dots.specs.Dots.{dotAt, change, within, chan}
 use Rattle.dots.proofs.Laws.{
   byte-of,
@@ -38,10 +39,6 @@ use Rattle.areas.specs.Areas.{Fits, inArea, areaOn}
 pub at-column : (W i j : ℕ) → i < W → ((j * W + i) / W ≡ j) × ((j * W + i) % W ≡ i)
 at-column W i j h = let r = in-row j W (j * W + i) (omega arith) (omega arith) in (r .0, r .1 ∙ omega arith)
 
-both : (s t : Bool) → (s && t) ≡ true → (s ≡ true) × (t ≡ true)
-both true t e = (refl, e)
-both false t e = absurd (true≢false (sym e))
-
 pub in-area : (x y w h i j : ℕ) → x ≤ i → i < x + w → y ≤ j → j < y + h → inArea x y w h i j ≡ true
 unfolding inArea
 in-area x y w h i j a b c d = rw (within-yes x (x + w) i a b, within-yes y (y + h) j c d)
@@ -49,7 +46,7 @@ in-area x y w h i j a b c d = rw (within-yes x (x + w) i a b, within-yes y (y + 
 pub in-area-true : (x y w h i j : ℕ) → inArea x y w h i j ≡ true → (x ≤ i) × (i < x + w) × (y ≤ j) × (j < y + h)
 unfolding inArea
 in-area-true x y w h i j e =
-    let b = both (within x (x + w) i) (within y (y + h) j) e in
+    let b = and-both (within x (x + w) i) (within y (y + h) j) e in
     let u = within-true x (x + w) i (b .0) in
     let v = within-true y (y + h) j (b .1) in
     (u .0, u .1, v .0, v .1)

@@ -6,6 +6,7 @@ mod Product
 mod Accurate
 mod Halves
 mod Doubled
+pub mod Tests
 pub mod Laws
 pub mod OneAnswer
 mod Unique

@@ -10,6 +10,7 @@ use lib.Dec.{leb, eqb}
 use borrow.Author.Tests.{leb-true, eq-eqb, ne-eqb}
 use Rattle.colour.specs.Choice.{if_then_else_}
 use Rattle.colour.specs.declared.RGBA.{RGBA}
+use Rattle.colour.proofs.Tests.{and-both}
 use Rattle.dots.specs.Dots.{dotAt, within, drawn}
 use Rattle.dots.proofs.Laws.{change-same, Place, before, inside, past, place, within-yes, within-low, within-high, within-true}
 use Rattle.areas.specs.Areas.{Fits, inArea, areaOn}
@@ -17,7 +18,6 @@ use Rattle.areas.proofs.Laws.{area-none, area-by}
 use Rattle.job.specs.Commands.{rectangleKind, imageKind, soundMode}
 use Rattle.entries.specs.declared.Entry.{Entry}
 use Rattle.entries.specs.Entries.{goodImage, goodKind, goodEntry, multiplies, imagePixel, entryPixel, entryOn, ownRow, entryRows, Placed}
-use Rattle.entries.proofs.Images.{both-true}
 
 -- ---- what the rules come to
 
@@ -29,13 +29,13 @@ pub record Rules (W H n : ℕ) (e : Entry) : Type 0 where
 pub entry-rules : (W H n : ℕ) (e : Entry) → goodEntry W H n e ≡ true → Rules W H n e
 unfolding goodEntry
 entry-rules W H n e h =
-    let a = both-true _ _ h in
-    let b = both-true _ _ (a .0) in
-    record { across = leb-true _ _ (both-true (soundMode (e .mode)) (leb (e .x + e .w) W) (b .0) .1); down = leb-true _ _ (b .1); kind = a .1 }
+    let a = and-both _ _ h in
+    let b = and-both _ _ (a .0) in
+    record { across = leb-true _ _ (and-both (soundMode (e .mode)) (leb (e .x + e .w) W) (b .0) .1); down = leb-true _ _ (b .1); kind = a .1 }
 
 pub image-kind : (n : ℕ) (e : Entry) → goodKind n e ≡ true → (e .kind ≡ rectangleKind → ⊥) → goodImage n e ≡ true
 unfolding goodKind
-image-kind n e h k = both-true (eqb (e .kind) imageKind) (goodImage n e) (rw (ne-eqb (e .kind) rectangleKind k) at h) .1
+image-kind n e h k = and-both (eqb (e .kind) imageKind) (goodImage n e) (rw (ne-eqb (e .kind) rectangleKind k) at h) .1
 
 -- ---- rows of the picture and rows of the buffer
 

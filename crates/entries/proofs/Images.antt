@@ -1,6 +1,6 @@
 -- An image's entry that keeps the rules: where its data are, and its rows as rows of bits. Assumes nothing.
-use mathlib.Core.Path.{_≡_, refl, sym, ap, _∙_}
-use mathlib.Core.Bool.{Bool, true, false, _&&_, true≢false}
+use mathlib.Core.Path.{_≡_, sym, ap, _∙_}
+use mathlib.Core.Bool.{Bool, true}
 use mathlib.Core.List.{List}
 use Prim.Native.Nat.{ℕ, _+_, _-_, _*_, _/_, _%_, _^_, _≤_, _<_}
 use native.Mathlib.Nat.{div-lt-iff-lt-mul, mul-le-mul-right, mul-comm, add-mul, add-assoc}
@@ -9,6 +9,7 @@ use lib.ListN.{drop}
 use lib.Seq.{getD-drop}
 use borrow.Author.Tests.{leb-true, eqb-true}
 use Rattle.colour.specs.Colour.{withAlpha}
+use Rattle.colour.proofs.Tests.{and-both}
 use Rattle.dots.specs.Dots.{dotAt, change, within, drawn}
 use Rattle.dots.proofs.Laws.{change-by}
 use Rattle.bits.specs.Bits.{rowBytes, bitAlpha, Shown, bitsOn, pixelDrawn}
@@ -16,10 +17,6 @@ use Rattle.images.specs.Formats.{alphaOf, bytesOf}
 use Rattle.images.specs.Stretching.{pixelOf}
 use Rattle.entries.specs.declared.Entry.{Entry}
 use Rattle.entries.specs.Entries.{goodStretch, goodImage, imagePixel}
-
-pub both-true : (a b : Bool) → (a && b) ≡ true → (a ≡ true) × (b ≡ true)
-both-true true b e = (refl, e)
-both-true false b e = absurd (true≢false (sym e))
 
 -- what the rules of an image come to
 pub record Image (n : ℕ) (e : Entry) : Type 0 where
@@ -32,13 +29,13 @@ pub record Image (n : ℕ) (e : Entry) : Type 0 where
 pub image-rules : (n : ℕ) (e : Entry) → goodImage n e ≡ true → Image n e
 unfolding goodImage goodStretch bytesOf
 image-rules n e h =
-    let a = both-true _ _ h in
-    let b = both-true _ _ (a .0) in
-    let c = both-true _ _ (b .0) in
-    let d = both-true _ _ (c .0) in
+    let a = and-both _ _ h in
+    let b = and-both _ _ (a .0) in
+    let c = and-both _ _ (b .0) in
+    let d = and-both _ _ (c .0) in
     record {
-      fx = leb-true _ _ (both-true _ _ (d .0) .0);
-      fy = leb-true _ _ (both-true _ _ (d .1) .0);
+      fx = leb-true _ _ (and-both _ _ (d .0) .0);
+      fy = leb-true _ _ (and-both _ _ (d .1) .0);
       tall = eqb-true _ _ (c .1);
       wide = leb-true _ _ (b .1);
       part = leb-true _ _ (a .1);

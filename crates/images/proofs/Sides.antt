@@ -1,12 +1,13 @@
 -- Stretch factors, and sides within the limit. Assumes nothing.
 use mathlib.Core.Path.{_≡_, refl}
-use mathlib.Core.Bool.{Bool, true, false, _||_, true≢false}
+use mathlib.Core.Bool.{Bool, true, false, _||_}
 use Prim.Native.Nat.{ℕ, _*_, _≤_, _<_}
 use native.Mathlib.Nat.{mul-le-mul, le-trans, le-mul-of-pos-right}
 use native.Mathlib.Omega.{arith}
 use lib.Dec.{ltb, eqb}
 use borrow.Author.Tests.{ltb-false, eqb-false}
 use Rattle.numbers.specs.Numbers.{limit}
+use Rattle.colour.proofs.Tests.{neither}
 use Rattle.images.specs.declared.scale.Source.{Source}
 use Rattle.images.specs.Stretching.{factor, isLarge}
 use Rattle.images.specs.Steps.{Sound}
@@ -28,10 +29,6 @@ pub record Small (w h fx fy : ℕ) : Type 0 where
   pub height : h ≤ limit
   pub wide : w * fx ≤ limit
   pub tall : h * fy ≤ limit
-
-neither : (a b : Bool) → (a || b) ≡ false → (a ≡ false) × (b ≡ false)
-neither true b e = absurd (true≢false e)
-neither false b e = (refl, e)
 
 pub small : (w h fx fy : ℕ) → isLarge w h fx fy ≡ false → Small w h fx fy
 unfolding isLarge

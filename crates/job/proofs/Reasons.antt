@@ -6,27 +6,21 @@ use mathlib.Core.Bool.{Bool, true, false, not, _||_, or-true, true≢false}
 use native.Mathlib.Omega.{arith}
 use borrow.Author.Tests.{lt-ltb, le-ltb, le-leb, lt-leb, eq-eqb, ne-eqb, ltb-false, leb-false, eqb-true, eqb-false}
 use lib.Dec.{ltb, leb, eqb}
-use Rattle.numbers.specs.Numbers.{limit, done, tooLarge, wrongLength, offPaper, tooTall, emptyArea}
+use Rattle.numbers.specs.Numbers.{limit, done, tooLarge, wrongLength, offPaper, emptyArea}
 use Rattle.colour.specs.Choice.{if_then_else_}
 use Rattle.colour.specs.declared.RGBA.{RGBA}
+use Rattle.refusals.specs.Refusals.{tallRefusal}
+use Rattle.refusals.proofs.Codes.{tall-done}
+use Rattle.colour.proofs.Tests.{neither}
 use Rattle.images.specs.declared.formats.Format.the-variants.{Bits}
 use Rattle.images.specs.Formats.{bytesOf}
 use Rattle.images.specs.Stretching.{factor, isLarge}
 use Rattle.images.proofs.Sides.{Small, small}
 use Rattle.job.specs.declared.commands.Command.{Command}
 use Rattle.job.specs.declared.commands.Command.the-variants.{Rectangle, Image, Margin, Flip}
-use Rattle.job.specs.Dropping.{tallRefusal, putRefusal, imageRefusal, flipRefusal, refusal, grown}
+use Rattle.job.specs.Dropping.{putRefusal, imageRefusal, flipRefusal, refusal, grown}
 
 -- ---- from tests to the number
-
-module _ (H : ℕ) where
-  pub too-tall : limit < H → tooTall ≡ tallRefusal H
-  unfolding tallRefusal
-  too-tall a = rw (lt-ltb limit H a)
-
-  pub not-tall : H ≤ limit → done ≡ tallRefusal H
-  unfolding tallRefusal
-  not-tall a = rw (le-ltb limit H a)
 
 module _ (W H x y w h : ℕ) where
   pub put-wide : limit < w → tooLarge ≡ putRefusal W H x y w h
@@ -114,17 +108,9 @@ passed : (t : Bool) (n r : ℕ) → 0 < n → (if t then n else r) ≡ done → 
 passed true n r h e = absurd (omega arith)
 passed false n r h e = (refl, e)
 
-neither : (a b : Bool) → (a || b) ≡ false → (a ≡ false) × (b ≡ false)
-neither true b e = absurd (true≢false e)
-neither false b e = (refl, e)
-
 not-not : (t : Bool) → not t ≡ false → t ≡ true
 not-not true e = refl
 not-not false e = absurd (true≢false e)
-
-pub tall-kept : (H : ℕ) → tallRefusal H ≡ done → H ≤ limit
-unfolding tallRefusal
-tall-kept H e = ltb-false _ _ (passed (ltb limit H) _ done (omega arith) e .0)
 
 pub record PutKept (W H x y w h : ℕ) : Type 0 where
   pub wide : w ≤ limit
@@ -138,7 +124,7 @@ put-kept W H x y w h e =
     let a = passed (ltb limit w || ltb limit h) _ _ (omega arith) e in
     let b = passed (leb W x) _ _ (omega arith) (a .1) in
     let c = neither (ltb limit w) (ltb limit h) (a .0) in
-    record { wide = ltb-false _ _ (c .0); high = ltb-false _ _ (c .1); on = leb-false _ _ (b .0); fits = tall-kept _ (b .1) }
+    record { wide = ltb-false _ _ (c .0); high = ltb-false _ _ (c .1); on = leb-false _ _ (b .0); fits = tall-done _ (b .1) }
 
 pub record ImageKept (W H x y w h fx fy size : ℕ) : Type 0 where
   pub sides : Small w h fx fy
@@ -164,7 +150,7 @@ flip-kept W H x y w h e =
     let a = passed (eqb w 0 || eqb h 0) _ _ (omega arith) e in
     let b = passed (ltb W (x + w)) _ _ (omega arith) (a .1) in
     let c = neither (eqb w 0) (eqb h 0) (a .0) in
-    record { wide = eqb-false _ _ (c .0); high = eqb-false _ _ (c .1); on = ltb-false _ _ (b .0); fits = tall-kept _ (b .1) }
+    record { wide = eqb-false _ _ (c .0); high = eqb-false _ _ (c .1); on = ltb-false _ _ (b .0); fits = tall-done _ (b .1) }
 
 -- the same of a command, by its kind
 module _ (W H : ℕ) {d : Command} (k : refusal W H d ≡ done) where
@@ -178,7 +164,7 @@ module _ (W H : ℕ) {d : Command} (k : refusal W H d ≡ done) where
 
   pub margin-kept : {m : ℕ} → d ≡ Margin m → H + m ≤ limit
   unfolding refusal
-  margin-kept e = tall-kept _ (rw e at k)
+  margin-kept e = tall-done _ (rw e at k)
 
   pub mirrored-kept : {x y w h : ℕ} → d ≡ Flip x y w h → FlipKept W H x y w h
   unfolding refusal

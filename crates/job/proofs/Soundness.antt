@@ -1,8 +1,8 @@
 -- What soundness says of the paper and of each command. Assumes nothing.
 use Prim.Native.Nat.{ℕ, _+_, _-_, _≤_, _<_}
-use mathlib.Core.Path.{_≡_, refl, sym}
+use mathlib.Core.Path.{_≡_, refl}
 use mathlib.Core.List.{List, [], _∷_}
-use mathlib.Core.Bool.{Bool, true, false, _&&_, true≢false}
+use mathlib.Core.Bool.{Bool, true, false, _&&_}
 use native.Mathlib.Omega.{arith}
 use borrow.Author.Tests.{leb-true, eqb-true, eq-eqb, ne-eqb, le-leb, lt-leb}
 use lib.Dec.{leb, eqb}
@@ -10,15 +10,12 @@ use lib.ListN.{length}
 use Rattle.numbers.specs.Numbers.{limit}
 use Rattle.colour.specs.Choice.{if_then_else_}
 use Rattle.colour.specs.declared.RGBA.{RGBA}
+use Rattle.colour.proofs.Tests.{and-both}
 use Rattle.job.specs.declared.commands.Command.{Command}
 use Rattle.job.specs.declared.commands.Command.the-variants.{Rectangle, Image, Margin, Flip}
 use Rattle.job.specs.Records.{byteAt, Bytes, le32, Records}
 use Rattle.job.specs.Commands.{paperKind, rectangleKind, imageKind, marginKind, flipKind, paperSize, rectangleSize, imageSize, marginSize, flipSize, soundMode, soundPaper, soundCommand, soundCommands, rectangleAt, imageAt, flipAt, commandAt, commandsIn}
 use Rattle.job.proofs.Found.{Inside, in-ended, in-broken, in-rec}
-
-pub and-both : (a b : Bool) → (a && b) ≡ true → (a ≡ true) × (b ≡ true)
-and-both true b e = (refl, e)
-and-both false b e = absurd (true≢false (sym e))
 
 -- ---- the paper
 

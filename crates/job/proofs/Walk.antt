@@ -9,6 +9,7 @@ use lib.Dec.{ltb}
 use lib.ListN.{length, length-append}
 use Rattle.numbers.specs.Numbers.{limit, done, badJob, tooLong}
 use Rattle.colour.specs.Choice.{if_then_else_}
+use Rattle.colour.proofs.Tests.{and-both}
 use Rattle.job.specs.declared.records.Rec.{Rec}
 use Rattle.job.specs.declared.records.Rec.the-variants.{Record, Bad, End}
 use Rattle.job.specs.declared.commands.Command.{Command}
@@ -17,7 +18,7 @@ use Rattle.job.specs.Records.{le32, recordAt, records, Bytes}
 use Rattle.job.specs.Commands.{soundPaper, soundCommand, soundCommands, soundRecords, sound, commandsStart, paperWidth, commandAt, commandsIn, afterPaper, commands}
 use Rattle.job.specs.Dropping.{mostCommands, numberOf, jobRefusal, refusal, grown, heightFrom, keptFrom, droppedFrom, jobHeight, keptOf, jobDropped}
 use Rattle.job.proofs.Found.{found, records-record, records-end, records-bad, inside}
-use Rattle.job.proofs.Soundness.{and-both, paper, AllSane, all-sane}
+use Rattle.job.proofs.Soundness.{paper, AllSane, all-sane}
 use Rattle.job.proofs.Reasons.{grown-fits}
 use Rattle.job.proofs.Folds.{height-kept, kept-kept, dropped-kept, height-dropped, kept-dropped, dropped-dropped}
 

@@ -4,8 +4,9 @@ use mathlib.Core.List.{List, [], _∷_, _++_}
 use mathlib.Core.Bool.{Bool, not, _||_}
 use lib.ListN.{length, replicate}
 use lib.Dec.{ltb, leb, eqb}
-use Rattle.numbers.specs.Numbers.{limit, done, tooLarge, wrongLength, offPaper, tooTall, emptyArea, badJob, tooLong}
+use Rattle.numbers.specs.Numbers.{limit, done, tooLarge, wrongLength, offPaper, emptyArea, badJob, tooLong}
 use Rattle.colour.specs.Choice.{if_then_else_}
+use Rattle.refusals.specs.Refusals.{tallRefusal}
 use Rattle.images.specs.declared.formats.Format.the-variants.{Bits}
 use Rattle.images.specs.Formats.{bytesOf}
 use Rattle.images.specs.Stretching.{factor, isLarge}
@@ -27,10 +28,6 @@ unfoldable pub jobRefusal : List ℕ → ℕ
 jobRefusal s = numberOf (sound s) (commands s)
 
 -- ---- a command
-
--- 8: a resulting height above the limit
-unfoldable pub tallRefusal : ℕ → ℕ
-tallRefusal H = if ltb limit H then tooTall else done
 
 -- a put of w·h pixels at (x, y): 2, 5, 8. With all its pixels and growth on it is never 6 or 7
 unfoldable pub putRefusal : ℕ → ℕ → ℕ → ℕ → ℕ → ℕ → ℕ

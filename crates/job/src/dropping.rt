@@ -4,7 +4,7 @@ ghost use mathlib.Core.Path.{_≡_};
 ghost use Prim.Native.Nat.{_+_, _≤_, max};
 ghost use Rattle.numbers.specs.Numbers.{limit};
 ghost use Rattle.images.specs.Stretching.{factor};
-ghost use Rattle.job.specs.Dropping.{tallRefusal, putRefusal, imageRefusal, flipRefusal, refusal, grown};
+ghost use Rattle.job.specs.Dropping.{putRefusal, imageRefusal, flipRefusal, refusal, grown};
 use super::commands::Command;
 use images::Format;
 use images::bytes_of;
@@ -15,8 +15,8 @@ use numbers::EMPTY_AREA;
 use numbers::LIMIT;
 use numbers::OFF_PAPER;
 use numbers::TOO_LARGE;
-use numbers::TOO_TALL;
 use numbers::WRONG_LENGTH;
+use refusals::tall_refusal;
 
 // A dropped command: the first after the paper has place 0.
 #[repr(C)]
@@ -34,15 +34,6 @@ fn reached(height: u32, y: u32, h: u32) -> usize
         return end;
     }
     height as usize
-}
-
-fn tall_refusal(height: usize) -> u8
-    ensures { λ r. ⌜ r ≡ tallRefusal height ⌝ }
-{
-    if height > LIMIT as usize {
-        return TOO_TALL;
-    }
-    DONE
 }
 
 fn put_refusal(width: u32, height: u32, x: u32, y: u32, w: u32, h: u32) -> u8

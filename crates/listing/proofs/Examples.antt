@@ -12,7 +12,8 @@ use Rattle.images.specs.Stretching.{factor, isLarge, pixelOf}
 use Rattle.areas.specs.Areas.{inArea}
 use Rattle.job.specs.Records.{le16, le32, one, recordAt, records, rgbaAt, upTo}
 use Rattle.job.specs.Commands.{afterPaper, commandAt, commands, commandsIn, sound, soundCommand, soundCommands, soundPaper, soundRecords}
-use Rattle.job.specs.Dropping.{droppedFrom, flipRefusal, grown, heightFrom, imageRefusal, jobDropped, jobHeight, jobRefusal, keptFrom, keptOf, next, numberOf, padded, putRefusal, refusal, tallRefusal}
+use Rattle.refusals.specs.Refusals.{tallRefusal}
+use Rattle.job.specs.Dropping.{droppedFrom, flipRefusal, grown, heightFrom, imageRefusal, jobDropped, jobHeight, jobRefusal, keptFrom, keptOf, next, numberOf, padded, putRefusal, refusal}
 use Rattle.entries.specs.Entries.{entryOn, entryPixel, goodEntry, goodImage, goodKind, goodStretch, imageEntry, imagePixel, rectangleEntry}
 use Rattle.plan.specs.Plan.{entriesOf, hasFlip, isFlip, margins, planOf, translateRefusal, translated}
 use Rattle.rows.specs.Rows.{goodSizes, goodEntries, goodPlan, refusalOf, entriesOn, rowOn, hasInk, ink, rowGiven, firsts}

@@ -1,13 +1,14 @@
 -- Pixels that need no mixing: how they are told, and that they leave their dots where they do not cover them. Assumes nothing.
-use mathlib.Core.Path.{_≡_, refl, sym, _∙_}
+use mathlib.Core.Path.{_≡_, refl, _∙_}
 use mathlib.Core.Logic.{_⊎_, inl, inr, ⊎-elim}
 use mathlib.Core.List.{List}
-use mathlib.Core.Bool.{Bool, true, false, _&&_, and-true, and-false, or-true, or-false, true≢false}
+use mathlib.Core.Bool.{Bool, true, false, _&&_, and-true, and-false, or-true, or-false}
 use Prim.Native.Nat.{ℕ, suc, _+_, _<_}
 use native.Mathlib.Numerals.{add-one}
 use native.Mathlib.Omega.{arith}
 use borrow.Author.Tests.{eq-eqb, ne-eqb, eqb-true}
 use Rattle.colour.specs.declared.RGBA.{RGBA}
+use Rattle.colour.proofs.Tests.{and-both}
 use Rattle.dots.specs.Dots.{dotAt, drawn}
 use Rattle.dots.proofs.Laws.{below, drawn-none}
 use Rattle.pixels.specs.Steps.{unmixed, allUnmixed}
@@ -28,10 +29,6 @@ module _ (p : RGBA) where
   unmixed-leaves s e f = drawn-none false p s (eqb-true (p .a) 0 (rw (ne-eqb (p .a) 255 f, or-false) at e))
 
 -- ---- all of count pixels
-
-and-both : (a b : Bool) → (a && b) ≡ true → (a ≡ true) × (b ≡ true)
-and-both true b e = (refl, e)
-and-both false b e = absurd (true≢false (sym e))
 
 module _ (pixels : List ℕ) (from : ℕ) where
   pub all-unmixed-none : true ≡ allUnmixed pixels from 0

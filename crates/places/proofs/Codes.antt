@@ -7,9 +7,10 @@ use lib.Dec.{ltb, leb, eqb}
 use borrow.Author.Tests.{ltb-false, leb-true, leb-false, eqb-false}
 use Rattle.numbers.specs.Numbers.{limit, done}
 use Rattle.colour.specs.Choice.{if_then_else_}
+use Rattle.colour.proofs.Tests.{neither}
 use Rattle.thermal_image.specs.declared.ThermalImage.{ThermalImage}
 use Rattle.refusals.specs.Refusals.{first, unsound, growRefusal}
-use Rattle.refusals.proofs.Codes.{first-none, first-done, passed, room-done, neither}
+use Rattle.refusals.proofs.Codes.{first-none, first-done, passed, room-done}
 use Rattle.places.specs.Places.{cropped, cropWide, cropTall, sideRefusal, offRefusal, emptyRefusal, acrossRefusal, rowsRefusal, placeRefusal, tallAfter, flips, imageTall, flipTall, flipRefusal, borderRefusal}
 use Rattle.places.specs.Steps.{Ready}
 

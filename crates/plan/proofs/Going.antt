@@ -9,6 +9,7 @@ use borrow.Author.Tests.{eqb-true, eqb-false, eq-eqb, ne-eqb}
 use lib.Dec.{eqb}
 use lib.ListN.{length}
 use Rattle.colour.specs.declared.RGBA.{RGBA}
+use Rattle.colour.proofs.Tests.{and-both}
 use Rattle.images.specs.Stretching.{factor}
 use Rattle.job.specs.declared.records.Rec.the-variants.{Record, Bad, End}
 use Rattle.job.specs.declared.dropping.Dropped.{Dropped}
@@ -17,7 +18,6 @@ use Rattle.job.specs.declared.commands.Command.the-variants.{Rectangle, Image, 
 use Rattle.job.specs.Records.{recordAt}
 use Rattle.job.specs.Commands.{rectangleKind, imageKind, marginKind, flipKind, flipSize, soundCommand, commandsStart, paperWidth, paperColor, commandAt, commands}
 use Rattle.job.specs.Dropping.{refusal, grown, kept, padded}
-use Rattle.job.proofs.Soundness.{and-both}
 use Rattle.job.proofs.Walk.{rest, rest-record, rest-end, Good, Left, left-start, left-sound, left-next, left-bad, Looked, looked-start, looked-few, looked-kept, looked-dropped, looked-end}
 use Rattle.entries.specs.declared.Entry.{Entry}
 use Rattle.plan.specs.declared.Plan.{Plan}

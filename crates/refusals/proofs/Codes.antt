@@ -1,6 +1,6 @@
 -- From tests to a refusal's number, and from number 0 to what was tested. Assumes nothing.
 use mathlib.Core.Path.{_≡_, refl}
-use mathlib.Core.Bool.{Bool, true, false, _&&_, _||_, true≢false}
+use mathlib.Core.Bool.{Bool, true, false, _&&_, _||_}
 use Prim.Native.Nat.{ℕ, _+_, _*_, _/_, _≤_, _<_, max}
 use native.Mathlib.Nat.{mul-le-mul}
 use native.Mathlib.Omega.{arith}
@@ -8,6 +8,7 @@ use lib.Dec.{ltb, eqb}
 use borrow.Author.Tests.{ltb-false, eqb-true, eqb-false, lt-ltb, le-ltb, lt-leb, eq-eqb, ne-eqb}
 use Rattle.numbers.specs.Numbers.{limit, done, badCanvas}
 use Rattle.colour.specs.Choice.{if_then_else_}
+use Rattle.colour.proofs.Tests.{neither}
 use Rattle.refusals.specs.Refusals.{first, unsound, tallRefusal, wideRefusal, roomRefusal, rgbRoomRefusal, rowsOf, growRefusal, marginRefusal, widthRefusal, widenRefusal, outRefusal, rgbRefusal}
 
 -- a product of two sides
@@ -94,10 +95,6 @@ module _ (w h n : ℕ) (a : w ≤ limit) (b : h ≤ limit) {r : ℕ} (e : r ≡ 
   unfolding unsound
   unsound-none l s =
       rw (le-ltb _ _ a, le-ltb _ _ b, ← flat-test w h, ← e, le-ltb _ _ l, le-ltb n (4 * (w * h)) (omega arith))
-
-pub neither : (a b : Bool) → (a || b) ≡ false → (a ≡ false) × (b ≡ false)
-neither true b e = absurd (true≢false e)
-neither false b e = (refl, e)
 
 pub record Sound (W H n : ℕ) : Type 0 where
   pub width : W ≤ limit

@@ -3,6 +3,7 @@ use Rattle.colour.proofs.OneAnswer.{OneAnswer, both}
 use Rattle.refusals.proofs.first.Reads as first
 use Rattle.refusals.proofs.rows_of.Reads as rows-of
 use Rattle.refusals.proofs.larger.Reads as larger
+use Rattle.refusals.proofs.tall_refusal.Reads as tall-refusal
 use Rattle.refusals.proofs.wide_refusal.Reads as wide-refusal
 use Rattle.refusals.proofs.room_refusal.Reads as room-refusal
 use Rattle.refusals.proofs.unsound.Reads as unsound
@@ -21,6 +22,9 @@ rows-of-one k a x y e f p q = both p q
 
 larger-one : OneAnswer larger.Post
 larger-one k a x y e f p q = both p q
+
+tall-refusal-one : OneAnswer tall-refusal.Post
+tall-refusal-one k a x y e f p q = both p q
 
 wide-refusal-one : OneAnswer wide-refusal.Post
 wide-refusal-one k a x y e f p q = both p q

@@ -37,7 +37,7 @@ pub fn larger(a: u32, b: u32) -> u32
     a
 }
 
-fn tall_refusal(h: usize) -> u8
+pub fn tall_refusal(h: usize) -> u8
     ensures { λ r. ⌜ r ≡ tallRefusal h ⌝ }
 {
     if h > LIMIT as usize {

@@ -11,6 +11,7 @@ use lib.Dec.{ltb, leb}
 use lib.ListN.{length, getD}
 use Rattle.numbers.specs.Numbers.{limit, done, noRoom, badPlan, noRow}
 use Rattle.colour.specs.Choice.{if_then_else_}
+use Rattle.colour.proofs.Tests.{and-both}
 use Rattle.dots.proofs.Laws.{below}
 use Rattle.entries.specs.declared.Entry.{Entry}
 use Rattle.entries.specs.Entries.{goodKind, goodEntry}
@@ -18,10 +19,6 @@ use Rattle.job.specs.Commands.{soundMode}
 use Rattle.job.specs.Dropping.{mostCommands}
 use Rattle.plan.specs.Plan.{noEntry}
 use Rattle.rows.specs.Rows.{goodSizes, goodEntries, goodPlan, refusalOf, rowRefusal, rowsRefusal, firsts}
-
-both : (a b : Bool) → (a && b) ≡ true → (a ≡ true) × (b ≡ true)
-both true b e = (refl, e)
-both false b e = absurd (true≢false (sym e))
 
 pub record Sizes (W H count : ℕ) : Type 0 where
   pub some : 1 ≤ W
@@ -32,9 +29,9 @@ pub record Sizes (W H count : ℕ) : Type 0 where
 pub sizes-good : (W H count : ℕ) → goodSizes W H count ≡ true → Sizes W H count
 unfolding goodSizes
 sizes-good W H count e =
-    let b = both (leb 1 W && leb W limit && leb H limit) (leb count mostCommands) e in
-    let c = both (leb 1 W && leb W limit) (leb H limit) (b .0) in
-    let d = both (leb 1 W) (leb W limit) (c .0) in
+    let b = and-both (leb 1 W && leb W limit && leb H limit) (leb count mostCommands) e in
+    let c = and-both (leb 1 W && leb W limit) (leb H limit) (b .0) in
+    let d = and-both (leb 1 W) (leb W limit) (c .0) in
     record { some = leb-true _ _ (d .0); wide = leb-true _ _ (d .1); tall = leb-true _ _ (c .1); few = leb-true _ _ (b .1) }
 
 pub rows-done : (good : Bool) (W H first n room : ℕ) → rowsRefusal good W H first n room ≡ done → (good ≡ true) × (first + n ≤ H) × (n * W * 4 ≤ room)
@@ -85,7 +82,7 @@ module _ (W H n : ℕ) where
   unfolding firsts
   good-at es zero i h e = absurd (not-suc-le-zero h)
   good-at es (suc count) i h e =
-      let b = both (goodEntries W H n (firsts count es)) (goodEntry W H n (getD es count noEntry)) (sym (good-more (firsts count es) (getD es count noEntry)) ∙ e) in
+      let b = and-both (goodEntries W H n (firsts count es)) (goodEntry W H n (getD es count noEntry)) (sym (good-more (firsts count es) (getD es count noEntry)) ∙ e) in
       ⊎-elim (λ u. good-at es count i u (b .0)) (λ u. let q : i ≡ count = omega arith in rw q (b .1)) (below i count)
 
   pub good-not : (count : ℕ) (es : List Entry) (i : ℕ) → i < count → goodEntry W H n (getD es i noEntry) ≡ false → false ≡ goodEntries W H n (firsts count es)
@@ -102,7 +99,7 @@ module _ (W H n : ℕ) where
 
     pub plan-good : goodPlan W H n count es ≡ true → Good
     unfolding goodPlan
-    plan-good e = let a = both (goodSizes W H count) _ e in record { sizes = sizes-good W H count (a .0); entries = a .1 }
+    plan-good e = let a = and-both (goodSizes W H count) _ e in record { sizes = sizes-good W H count (a .0); entries = a .1 }
 
     pub good-plan : Good → goodPlan W H n count es ≡ true
     unfolding goodPlan goodSizes
@@ -151,6 +148,6 @@ firsts-all (e ∷ es) fs = first-next (length es) e (es ++ fs) ∙ ap (λ (l : L
 pub good-wider : (W H n : ℕ) (e : Entry) → H ≤ limit → goodEntry W H n e ≡ true → goodEntry W limit n e ≡ true
 unfolding goodEntry
 good-wider W H n e h g =
-    let a = both _ (goodKind n e) g in
-    let b = both (soundMode (e .mode) && leb (e .x + e .w) W) (leb (e .y + e .h) H) (a .0) in
+    let a = and-both _ (goodKind n e) g in
+    let b = and-both (soundMode (e .mode) && leb (e .x + e .w) W) (leb (e .y + e .h) H) (a .0) in
     rw (b .0, le-leb (e .y + e .h) limit (omega (arith, leb-true (e .y + e .h) H (b .1)))) (a .1)
