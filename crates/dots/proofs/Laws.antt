@@ -2,7 +2,7 @@
 use mathlib.Core.Path.{_≡_, refl, sym, ap, _∙_}
 use mathlib.Core.Logic.{_≢_, _⊎_, inl, inr, ⊎-elim}
 use mathlib.Core.List.{List}
-use mathlib.Core.Bool.{Bool, true, false, not, _||_, or-true, or-false, and-false, true≢false}
+use mathlib.Core.Bool.{Bool, true, false, not, _||_, or-true, or-false, or-comm, and-false, true≢false}
 use Prim.Native.Nat.{ℕ, zero, suc, _+_, _*_, _/_, _%_, _≤_, _<_}
 use native.Mathlib.Nat.{le-of-suc-le-suc, not-suc-le-zero, add-zero}
 use native.Mathlib.Omega.{arith}
@@ -331,6 +331,15 @@ pub run-more : (at i j : ℕ) (f g : ℕ → RGBA → RGBA) (l : List ℕ) → a
     → {b m : List ℕ} → b ≡ change (within at i) g l → m ≡ change (within i j) f b → m ≡ change (within at j) g l
 run-more at i j f g l h k same eb em =
     em ∙ rw eb (change-by _ f g _ (λ n t. let w = within-true i j n t in same n (w .0) (w .1) _) ∙ run-then at i j g l h k)
+
+-- the same from the last dots to the first: a turn that does those from lo to i
+pub run-back : (lo i hi : ℕ) (f g : ℕ → RGBA → RGBA) (l : List ℕ) → lo ≤ i → i ≤ hi → ((k : ℕ) → lo ≤ k → k < i → (d : RGBA) → f k d ≡ g k d)
+    → {b m : List ℕ} → b ≡ change (within i hi) g l → m ≡ change (within lo i) f b → m ≡ change (within lo hi) g l
+run-back lo i hi f g l h k same {b} eb em =
+    em ∙ change-by _ f g b (λ n t. let w = within-true lo i n t in same n (w .0) (w .1) _)
+    ∙ rw eb
+    (change-more _ _ _ g l (λ j. within-then lo i hi j h k ∙ or-comm (within lo i j) (within i hi j))
+    (λ j e. let w = within-true lo i j e in within-low i hi j (w .1)))
 
 pub run-on : (at i j : ℕ) (g : ℕ → RGBA → RGBA) (l : List ℕ) → at ≤ i → i ≤ j
     → {b m : List ℕ} → b ≡ change (within at i) g l → m ≡ change (within i j) g b → m ≡ change (within at j) g l

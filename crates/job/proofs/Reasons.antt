@@ -7,10 +7,9 @@ use native.Mathlib.Omega.{arith}
 use borrow.Author.Tests.{lt-ltb, le-ltb, le-leb, lt-leb, eq-eqb, ne-eqb, ltb-false, leb-false, eqb-true, eqb-false}
 use lib.Dec.{ltb, leb, eqb}
 use Rattle.numbers.specs.Numbers.{limit, done, tooLarge, wrongLength, offPaper, emptyArea}
-use Rattle.colour.specs.Choice.{if_then_else_}
 use Rattle.colour.specs.declared.RGBA.{RGBA}
 use Rattle.refusals.specs.Refusals.{tallRefusal}
-use Rattle.refusals.proofs.Codes.{tall-done}
+use Rattle.refusals.proofs.Codes.{passed-on, tall-done}
 use Rattle.colour.proofs.Tests.{neither}
 use Rattle.images.specs.declared.formats.Format.the-variants.{Bits}
 use Rattle.images.specs.Formats.{bytesOf}
@@ -103,11 +102,6 @@ module _ (H : ℕ) {d : Command} where
 
 -- ---- what is known of a command that is kept
 
--- the first test of a refusal did not hold
-passed : (t : Bool) (n r : ℕ) → 0 < n → (if t then n else r) ≡ done → (t ≡ false) × (r ≡ done)
-passed true n r h e = absurd (omega arith)
-passed false n r h e = (refl, e)
-
 not-not : (t : Bool) → not t ≡ false → t ≡ true
 not-not true e = refl
 not-not false e = absurd (true≢false e)
@@ -121,8 +115,8 @@ pub record PutKept (W H x y w h : ℕ) : Type 0 where
 pub put-kept : (W H x y w h : ℕ) → putRefusal W H x y w h ≡ done → PutKept W H x y w h
 unfolding putRefusal
 put-kept W H x y w h e =
-    let a = passed (ltb limit w || ltb limit h) _ _ (omega arith) e in
-    let b = passed (leb W x) _ _ (omega arith) (a .1) in
+    let a = passed-on (ltb limit w || ltb limit h) (omega arith) e in
+    let b = passed-on (leb W x) (omega arith) (a .1) in
     let c = neither (ltb limit w) (ltb limit h) (a .0) in
     record { wide = ltb-false _ _ (c .0); high = ltb-false _ _ (c .1); on = leb-false _ _ (b .0); fits = tall-done _ (b .1) }
 
@@ -134,8 +128,8 @@ pub record ImageKept (W H x y w h fx fy size : ℕ) : Type 0 where
 pub image-kept : (W H x y w h fx fy size : ℕ) → imageRefusal W H x y w h fx fy size ≡ done → ImageKept W H x y w h fx fy size
 unfolding imageRefusal
 image-kept W H x y w h fx fy size e =
-    let a = passed (isLarge w h fx fy) _ _ (omega arith) e in
-    let b = passed (not (eqb size (bytesOf Bits w h))) _ _ (omega arith) (a .1) in
+    let a = passed-on (isLarge w h fx fy) (omega arith) e in
+    let b = passed-on (not (eqb size (bytesOf Bits w h))) (omega arith) (a .1) in
     record { sides = small w h fx fy (a .0); bytes = eqb-true _ _ (not-not _ (b .0)); put = put-kept W H x y (w * fx) (h * fy) (b .1) }
 
 pub record FlipKept (W H x y w h : ℕ) : Type 0 where
@@ -147,8 +141,8 @@ pub record FlipKept (W H x y w h : ℕ) : Type 0 where
 pub flip-kept : (W H x y w h : ℕ) → flipRefusal W H x y w h ≡ done → FlipKept W H x y w h
 unfolding flipRefusal
 flip-kept W H x y w h e =
-    let a = passed (eqb w 0 || eqb h 0) _ _ (omega arith) e in
-    let b = passed (ltb W (x + w)) _ _ (omega arith) (a .1) in
+    let a = passed-on (eqb w 0 || eqb h 0) (omega arith) e in
+    let b = passed-on (ltb W (x + w)) (omega arith) (a .1) in
     let c = neither (eqb w 0) (eqb h 0) (a .0) in
     record { wide = eqb-false _ _ (c .0); high = eqb-false _ _ (c .1); on = ltb-false _ _ (b .0); fits = tall-done _ (b .1) }
 

@@ -10,7 +10,6 @@ use images::Format;
 use images::bytes_of;
 use images::factor_of;
 use images::is_large;
-use numbers::DONE;
 use numbers::EMPTY_AREA;
 use numbers::LIMIT;
 use numbers::OFF_PAPER;

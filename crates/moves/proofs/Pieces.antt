@@ -7,8 +7,7 @@ use native.Mathlib.Omega.{arith}
 use lib.ListN.{length}
 use Rattle.colour.specs.declared.RGBA.{RGBA}
 use Rattle.dots.specs.Dots.{dotAt, change, within}
-use Rattle.dots.proofs.Laws.{length-change, change-picked, change-kept, change-by, run-none, run-more, within-yes, within-low, within-true}
-use Rattle.moves.proofs.Rows.{run-back}
+use Rattle.dots.proofs.Laws.{length-change, change-picked, change-kept, change-by, run-none, run-more, run-back, within-yes, within-low, within-true}
 
 -- ---- n dots from dot `at` on go to another buffer, and from there `by` on from where they were
 
@@ -23,30 +22,30 @@ moved-by-way at by n l w room eb em =
     let j = 0 + (k - (at + by)) in
     ap (λ (x : List ℕ). dotAt x j) eb ∙ change-picked _ _ w j (within-yes 0 (0 + n) j (omega arith) (omega arith)) (omega arith) ∙ ap (dotAt l) (omega arith))
 
--- ---- where the dots from lo to hi hold those of l, `by` before them, the dots that are read for others are as they were
+-- ---- where the dots from lo to hi are written, with those of l that lie `by` before them, a dot before lo is as it was
 
 module _ (by : ℕ) (l : List ℕ) where
   abbrev dot : ℕ → RGBA → RGBA
   dot k _ = dotAt l (k - by)
 
-  unread : (lo hi k : ℕ) {b : List ℕ} → b ≡ change (within lo hi) dot l → k - by < lo → dotAt b (k - by) ≡ dotAt l (k - by)
-  unread lo hi k e h = ap (λ (x : List ℕ). dotAt x (k - by)) e ∙ change-kept _ dot l (k - by) (within-low lo hi (k - by) h)
+  unwritten : (lo hi k : ℕ) {b : List ℕ} → b ≡ change (within lo hi) dot l → k - by < lo → dotAt b (k - by) ≡ dotAt l (k - by)
+  unwritten lo hi k e h = ap (λ (x : List ℕ). dotAt x (k - by)) e ∙ change-kept _ dot l (k - by) (within-low lo hi (k - by) h)
 
 -- ---- `count` dots from dot `at` on, no more than `by`: the first i are moved
 
 module _ (at by count : ℕ) (l : List ℕ) where
-  pub record Up (i : ℕ) (b : List ℕ) : Type 0 where
+  pub record FirstMoved (i : ℕ) (b : List ℕ) : Type 0 where
     pub upto : i ≤ count
     pub same : length b ≡ length l
     pub sofar : b ≡ change (within (at + by) (at + by + i)) (dot by l) l
 
-  pub up-start : Up 0 l
-  up-start = record { upto = omega arith; same = refl; sofar = rw add-zero (run-none (at + by) (dot by l) l) }
+  pub first-start : FirstMoved 0 l
+  first-start = record { upto = omega arith; same = refl; sofar = rw add-zero (run-none (at + by) (dot by l) l) }
 
-  -- the piece of n dots from dot i on
-  pub up-next : {i : ℕ} (n : ℕ) {b m : List ℕ} → Up i b → i + n ≤ count → count ≤ by
-      → m ≡ change (within (at + i + by) (at + i + by + n)) (λ k _. dotAt b (k - by)) b → Up (i + n) m
-  up-next {i} n {b} o h apart em =
+  -- the piece of n dots from dot at + i on
+  pub first-next : {i : ℕ} (n : ℕ) {b m : List ℕ} → FirstMoved i b → i + n ≤ count → count ≤ by
+      → m ≡ change (within (at + i + by) (at + i + by + n)) (λ k _. dotAt b (k - by)) b → FirstMoved (i + n) m
+  first-next {i} n {b} o h apart em =
       let low : at + i + by ≡ at + by + i = omega arith in
       let high : at + by + i + n ≡ at + by + (i + n) = omega arith in
       record {
@@ -54,28 +53,28 @@ module _ (at by count : ℕ) (l : List ℕ) where
         same = ap length em ∙ length-change _ _ b ∙ o .same;
         sofar =
             run-more (at + by) (at + by + i) (at + by + (i + n)) (λ k _. dotAt b (k - by)) (dot by l) l (omega arith) (omega arith)
-            (λ k u v d. unread by l (at + by) (at + by + i) k (o .sofar) (omega arith))
+            (λ k u v d. unwritten by l (at + by) (at + by + i) k (o .sofar) (omega arith))
             (o .sofar) (rw (low, high) at em);
       }
 
-  pub up-end : {i : ℕ} {b : List ℕ} → Up i b → i ≡ count → b ≡ change (within (at + by) (at + by + count)) (dot by l) l
-  up-end o e = rw e at (o .sofar)
+  pub first-end : {i : ℕ} {b : List ℕ} → FirstMoved i b → i ≡ count → b ≡ change (within (at + by) (at + by + count)) (dot by l) l
+  first-end o e = rw e at (o .sofar)
 
 -- ---- the first n dots: those from dot i on are moved
 
 module _ (n by : ℕ) (l : List ℕ) where
-  pub record Down (i : ℕ) (b : List ℕ) : Type 0 where
+  pub record LastMoved (i : ℕ) (b : List ℕ) : Type 0 where
     pub upto : i ≤ n
     pub same : length b ≡ length l
     pub sofar : b ≡ change (within (by + i) (by + n)) (dot by l) l
 
-  pub down-start : Down n l
-  down-start = record { upto = omega arith; same = refl; sofar = run-none (by + n) (dot by l) l }
+  pub last-start : LastMoved n l
+  last-start = record { upto = omega arith; same = refl; sofar = run-none (by + n) (dot by l) l }
 
   -- the piece of count dots from dot `at` on, up to dot i
-  pub down-next : {i : ℕ} (at count : ℕ) {b m : List ℕ} → Down i b → at + count ≡ i
-      → m ≡ change (within (at + by) (at + by + count)) (λ k _. dotAt b (k - by)) b → Down at m
-  down-next {i} at count {b} o e em =
+  pub last-next : {i : ℕ} (at count : ℕ) {b m : List ℕ} → LastMoved i b → at + count ≡ i
+      → m ≡ change (within (at + by) (at + by + count)) (λ k _. dotAt b (k - by)) b → LastMoved at m
+  last-next {i} at count {b} o e em =
       let low : at + by ≡ by + at = omega arith in
       let high : by + at + count ≡ by + i = omega arith in
       record {
@@ -83,9 +82,9 @@ module _ (n by : ℕ) (l : List ℕ) where
         same = ap length em ∙ length-change _ _ b ∙ o .same;
         sofar =
             run-back (by + at) (by + i) (by + n) (λ k _. dotAt b (k - by)) (dot by l) l (omega arith) (omega (arith, o .upto))
-            (λ k u v d. unread by l (by + i) (by + n) k (o .sofar) (omega arith))
+            (λ k u v d. unwritten by l (by + i) (by + n) k (o .sofar) (omega arith))
             (o .sofar) (rw (low, high) at em);
       }
 
-  pub down-end : {b : List ℕ} → Down 0 b → b ≡ change (within by (by + n)) (dot by l) l
-  down-end o = rw add-zero at (o .sofar)
+  pub last-end : {b : List ℕ} → LastMoved 0 b → b ≡ change (within by (by + n)) (dot by l) l
+  last-end o = rw add-zero at (o .sofar)

@@ -1,7 +1,7 @@
 -- A rectangle of a picture that grows by a dot, and by a column, to whole rows. Assumes nothing.
 use mathlib.Core.Path.{_≡_, refl, sym, _∙_}
 use mathlib.Core.List.{List}
-use mathlib.Core.Bool.{Bool, true, false, _&&_, _||_, and-or-distrib-left, and-or-distrib-right, true≢false}
+use mathlib.Core.Bool.{Bool, true, false, _||_, and-or-distrib-left, and-or-distrib-right}
 use Prim.Native.Nat.{ℕ, zero, suc, _+_, _*_, _/_, _%_, _≤_, _<_}
 use native.Mathlib.Nat.{div-add-mod', mod-lt, add-mul, mul-zero, mul-le-mul-right, le-div-iff-mul-le, div-lt-iff-lt-mul}
 use native.Mathlib.Omega.{arith}
@@ -9,6 +9,7 @@ use lib.ListN.{length}
 use lib.Dec.{eqb}
 use borrow.Author.Tests.{eqb-true, eq-eqb}
 use Rattle.colour.specs.declared.RGBA.{RGBA}
+use Rattle.colour.proofs.Tests.{and-both}
 use Rattle.dots.specs.Dots.{dotAt, setDot, change, within}
 use Rattle.dots.proofs.Laws.{change-none, change-step, change-more, change-where, within-yes, within-true, within-then}
 use Rattle.dots.proofs.Blocks.{in-row}
@@ -22,12 +23,11 @@ rect-yes wide c c' r r' i a b d e = rw (within-yes c c' (i % wide) a b, within-y
 
 rect-true : (wide c c' r r' i : ℕ) → inRect wide c c' r r' i ≡ true → (c ≤ i % wide) × (i % wide < c') × (r ≤ i / wide) × (i / wide < r')
 unfolding inRect
-rect-true wide c c' r r' i e = by (within c c' (i % wide)) (within r r' (i / wide)) refl refl e
-  where
-    by : (t u : Bool) → within c c' (i % wide) ≡ t → within r r' (i / wide) ≡ u → (t && u) ≡ true → (c ≤ i % wide) × (i % wide < c') × (r ≤ i / wide) × (i / wide < r')
-    by true true et eu e = let a = within-true c c' (i % wide) et in let b = within-true r r' (i / wide) eu in (a .0, a .1, b .0, b .1)
-    by true false et eu e = absurd (true≢false (sym e))
-    by false u et eu e = absurd (true≢false (sym e))
+rect-true wide c c' r r' i e =
+    let t = and-both (within c c' (i % wide)) (within r r' (i / wide)) e in
+    let a = within-true c c' (i % wide) (t .0) in
+    let b = within-true r r' (i / wide) (t .1) in
+    (a .0, a .1, b .0, b .1)
 
 off : (t : Bool) → (t ≡ true → ⊥) → t ≡ false
 off true h = absurd (h refl)

@@ -1,6 +1,5 @@
 -- A row widened in three steps, and the loop that widens the rows from the last to the first. Assumes nothing.
 use mathlib.Core.Path.{_≡_, refl, ap, _∙_}
-use mathlib.Core.Bool.{or-comm}
 use mathlib.Core.List.{List}
 use Prim.Native.Nat.{ℕ, _+_, _-_, _*_, _/_, _%_, _≤_, _<_}
 use native.Mathlib.Nat.{add-mul, mul-comm, zero-mul, mul-le-mul-left, mul-le-mul-right}
@@ -9,7 +8,7 @@ use lib.ListN.{length}
 use Rattle.colour.specs.Choice.{if_then_else_}
 use Rattle.colour.specs.declared.RGBA.{RGBA}
 use Rattle.dots.specs.Dots.{dotAt, change, within}
-use Rattle.dots.proofs.Laws.{length-change, change-picked, change-kept, change-past, change-ext, change-by, change-more, run-none, Place, before, inside, past, place, within-yes, within-low, within-high, within-true, within-then}
+use Rattle.dots.proofs.Laws.{length-change, change-picked, change-kept, change-past, change-ext, run-none, run-back, Place, before, inside, past, place, within-yes, within-low, within-high}
 use Rattle.dots.proofs.Blocks.{in-row}
 use Rattle.moves.specs.Moves.{widenedAt, widenedOn}
 
@@ -77,16 +76,6 @@ module _ (w wide left r : ℕ) (paper : RGBA) (l : List ℕ) where
       → m ≡ change (within end (end + (start + wide - end))) (λ _ _. paper) b
       → m ≡ change (within start (start + wide)) rowDot l
   row-three fits ed ea eb em = em ∙ rw (eb, ea, ed) (row-done fits)
-
--- ---- a turn of a loop from the last dots to the first: those from lo to i, by f, which does to them what g says
-
-pub run-back : (lo i hi : ℕ) (f g : ℕ → RGBA → RGBA) (l : List ℕ) → lo ≤ i → i ≤ hi → ((k : ℕ) → lo ≤ k → k < i → (d : RGBA) → f k d ≡ g k d)
-    → {b m : List ℕ} → b ≡ change (within i hi) g l → m ≡ change (within lo i) f b → m ≡ change (within lo hi) g l
-run-back lo i hi f g l h k same {b} eb em =
-    em ∙ change-by _ f g b (λ n t. let w = within-true lo i n t in same n (w .0) (w .1) _)
-    ∙ rw eb
-    (change-more _ _ _ g l (λ j. within-then lo i hi j h k ∙ or-comm (within lo i j) (within i hi j))
-    (λ j e. let w = within-true lo i j e in within-low i hi j (w .1)))
 
 -- a widened dot is known by the row that it is read from
 widened-from : (w left r c : ℕ) (paper : RGBA) (b l : List ℕ) → ((j : ℕ) → j < r * w + w → dotAt b j ≡ dotAt l j)

@@ -12,8 +12,9 @@ use dots::fill_run;
 // The shortest way that pieces are made for, in dots.
 const FAR: usize = 16384;
 
-// The n dots of a picture, `by` on. Where that is far they go in pieces as long as the way, so that
-// no piece overlaps where it goes; the last first, since each goes to where the one after it lay.
+// The n dots of a picture, `by` on. Where that is far they go in pieces as long as the way, or
+// shorter for the first, so that no piece overlaps where it goes; the last first, since each goes to
+// where the one after it lay.
 fn move_on(buf: &mut [u8], n: usize, by: usize)
     requires { ⌜ (by + n) * 4 ≤ length (now buf) ⌝ }
     ensures { λ _. ⌜ now (buf .exit) ≡ change (within by (by + n)) (λ i _. dotAt (now (buf .entry)) (i - by)) (now (buf .entry)) ⌝ }

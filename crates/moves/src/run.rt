@@ -23,7 +23,7 @@ pub fn move_run(buf: &mut [u8], at: usize, by: usize, count: usize)
 // The dots of a block.
 const BLOCK: usize = 1024;
 
-// A block of dots. The compiler leaves the array out and calls the C library for the one move.
+// A block of dots, `by` on. The compiler leaves the array out and calls the C library for one move.
 fn move_block(buf: &mut [u8], at: usize, by: usize)
     requires { ⌜ (at + by + 1024) * 4 ≤ length (now buf) ⌝ }
     ensures { λ _. ⌜ now (buf .exit) ≡ change (within (at + by) (at + by + 1024)) (λ i _. dotAt (now (buf .entry)) (i - by)) (now (buf .entry)) ⌝ }
@@ -33,7 +33,8 @@ fn move_block(buf: &mut [u8], at: usize, by: usize)
     copy_run(&block, 0, buf, at + by, BLOCK);
 }
 
-// Dots that go to where none of them lies, block by block, from the first to the last.
+// Dots that go to where none of them lies, block by block, from the first to the last, and then those
+// that are left.
 pub(crate) fn move_apart(buf: &mut [u8], at: usize, by: usize, count: usize)
     requires { ⌜ ((at + by + count) * 4 ≤ length (now buf)) × (count ≤ by) ⌝ }
     ensures { λ _. ⌜ now (buf .exit) ≡ change (within (at + by) (at + by + count)) (λ i _. dotAt (now (buf .entry)) (i - by)) (now (buf .entry)) ⌝ }

@@ -1,13 +1,13 @@
 -- What cropping leaves, and from number 0 to what was tested. Assumes nothing.
 use mathlib.Core.Path.{_≡_, refl, sym, _∙_}
-use mathlib.Core.Bool.{Bool, true, false, not, _&&_, _||_, true≢false, and-false}
+use mathlib.Core.Bool.{Bool, true, false, not, _&&_, _||_, and-false}
 use Prim.Native.Nat.{ℕ, _+_, _-_, _*_, _≤_, _<_, min, max}
 use native.Mathlib.Omega.{arith}
 use lib.Dec.{ltb, leb, eqb}
 use borrow.Author.Tests.{ltb-false, leb-true, leb-false, eqb-false}
 use Rattle.numbers.specs.Numbers.{limit, done}
 use Rattle.colour.specs.Choice.{if_then_else_}
-use Rattle.colour.proofs.Tests.{neither}
+use Rattle.colour.proofs.Tests.{and-both, neither}
 use Rattle.thermal_image.specs.declared.ThermalImage.{ThermalImage}
 use Rattle.refusals.specs.Refusals.{first, unsound, growRefusal}
 use Rattle.refusals.proofs.Codes.{first-none, first-done, passed, room-done}
@@ -132,13 +132,7 @@ image-ready upside t x y w h bytes n er e =
 -- an image that is flipped
 pub flips-across : (upside : Bool) (t : ThermalImage) (x w h : ℕ) → flips upside t x w h ≡ true → x + w ≤ t .width
 unfolding flips
-flips-across true t x w h e = by (ltb 0 w) (ltb 0 h) e
-  where
-    by : (a b : Bool) → (true && a && b && leb (x + w) (t .width)) ≡ true → x + w ≤ t .width
-    by true true f = leb-true _ _ f
-    by true false f = absurd (true≢false (sym f))
-    by false b f = absurd (true≢false (sym f))
-flips-across false t x w h e = absurd (true≢false (sym e))
+flips-across upside t x w h e = leb-true _ _ (and-both (upside && ltb 0 w && ltb 0 h) _ e .1)
 
 pub flips-down : (upside : Bool) (t : ThermalImage) (x y w h : ℕ) → flips upside t x w h ≡ true → y + h ≤ imageTall upside t x y w h
 unfolding imageTall

@@ -9,7 +9,7 @@ use borrow.Author.Tests.{eqb-true, eqb-false, eq-eqb, ne-eqb}
 use lib.Dec.{eqb}
 use lib.ListN.{length}
 use Rattle.colour.specs.declared.RGBA.{RGBA}
-use Rattle.colour.proofs.Tests.{and-both}
+use Rattle.colour.proofs.Tests.{and-both, neither}
 use Rattle.images.specs.Stretching.{factor}
 use Rattle.job.specs.declared.records.Rec.the-variants.{Record, Bad, End}
 use Rattle.job.specs.declared.dropping.Dropped.{Dropped}
@@ -25,10 +25,6 @@ use Rattle.entries.specs.Entries.{rectangleEntry, imageEntry}
 use Rattle.plan.specs.Plan.{margins, entriesOf, isFlip, hasFlip, planWith, planOf}
 use Rattle.plan.specs.Steps.{planned, stepped, Ready}
 use Rattle.plan.proofs.Listed.{lower-none, entries-more, entries-margin, entries-few, Low, low-none, low-get, low-push, low-down, push-with, drop-with, shift-with}
-
-or-both : (a b : Bool) → (a || b) ≡ false → (a ≡ false) × (b ≡ false)
-or-both true b e = absurd (true≢false e)
-or-both false b e = (refl, e)
 
 -- ---- a command that is kept, on the record
 
@@ -103,7 +99,7 @@ module _ (s : List ℕ) (p : Plan) (k at : ℕ) (g : Going s p k at) where
     module _ {c : Command} {p' : Plan} (q : c ≡ commandAt s kind st n) (r : p' ≡ stepped p k c) where
       flips : (isFlip c ≡ false) × (hasFlip (rest s nx) ≡ false)
       unfolding hasFlip
-      flips = or-both (isFlip c) (hasFlip (rest s nx)) (rw q (rw (rest-record s at e) at (g .plain)))
+      flips = neither (isFlip c) (hasFlip (rest s nx)) (rw q (rw (rest-record s at e) at (g .plain)))
 
       by : (t : Bool) → kept (paperWidth s) (g .H) c ≡ t → Going s p' (k + 1) nx
       unfolding stepped

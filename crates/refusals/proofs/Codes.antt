@@ -41,10 +41,13 @@ first-done a b = go (eqb a done) refl
     go true e r = (eqb-true a done e, r)
     go false e r = absurd (eqb-false a done e r)
 
--- a test that gave 0 failed
+-- a test that gave 0 failed, and what comes after it gave 0
+pub passed-on : (t : Bool) {k r : ℕ} → 0 < k → (if t then k else r) ≡ done → (t ≡ false) × (r ≡ done)
+passed-on true h e = absurd (omega arith)
+passed-on false h e = (refl, e)
+
 pub passed : (t : Bool) {k : ℕ} → 0 < k → (if t then k else done) ≡ done → t ≡ false
-passed true h r = absurd (omega arith)
-passed false h r = refl
+passed t h e = passed-on t h e .0
 
 -- ---- 8, 2, 1
 

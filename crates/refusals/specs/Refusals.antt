@@ -1,4 +1,4 @@
--- What the canvas's own operations are refused for, by sizes and lengths alone: 01, "Canvas". The canvas is W by H dots, and n is the length of its buffer.
+-- What the canvas's own operations are refused for, by sizes and lengths alone: 01, "Canvas". The canvas is W by H dots, and n is the length of its buffer. Number 8 is a job's too.
 use Prim.Native.Nat.{ℕ, _+_, _*_, max}
 use mathlib.Core.Bool.{_&&_, _||_}
 use lib.Dec.{ltb, leb, eqb}

@@ -1,5 +1,6 @@
 // What the canvas's own operations are refused for, from sizes and lengths alone: of a canvas w by h
-// whose buffer has n bytes. Inner steps, which take any numbers.
+// whose buffer has n bytes. A job's height is refused for the same. Inner steps, which take any
+// numbers.
 ghost use mathlib.Core.Path.{_≡_};
 ghost use Prim.Native.Nat.{max};
 ghost use Rattle.refusals.specs.Refusals.{first, rowsOf, unsound, tallRefusal, wideRefusal, roomRefusal, rgbRoomRefusal, growRefusal, marginRefusal, widenRefusal, widthRefusal, outRefusal, rgbRefusal};

@@ -2,18 +2,18 @@
 use borrow.Author.Needs.{needs}
 use Prim.Native.Nat.{_-_}
 use native.Mathlib.Omega.{arith}
-use Rattle.moves.proofs.Pieces.{Up, up-start, up-next, up-end}
+use Rattle.moves.proofs.Pieces.{FirstMoved, first-start, first-next, first-end}
 use Rattle.moves.proofs.run.move_apart.Statement.{statement}
 use Rattle.moves.proofs.run.move_apart.Tie as tie
 
 abbrev Inv-loop : tie.InvT-loop
-Inv-loop buf₀ at by count i₀ buf i = Up at by count buf₀ i buf
+Inv-loop buf₀ at by count i₀ buf i = FirstMoved at by count buf₀ i buf
 
 abbrev μ-loop : tie.MeasureT-loop
 μ-loop buf₀ at by count i₀ buf i = count - i
 
 loop-holds : tie.Need-loop-holds Inv-loop μ-loop
-loop-holds c = up-start _ _ _ _
+loop-holds c = first-start _ _ _ _
 
 sub-loop : tie.Need-sub-loop Inv-loop μ-loop
 sub-loop c = search needs
@@ -31,7 +31,7 @@ loop-less : tie.Need-loop-less Inv-loop μ-loop
 loop-less c = search needs
 
 loop-again : tie.Need-loop-again Inv-loop μ-loop
-loop-again c = up-next _ _ _ _ _ (c .before .before .before .before .before .loop .inv) (omega (arith, c .before .before .before .before .before .loop .inv)) (c .before .before .before .before .before .before .before .pre .1) (c .before .before .move-block .ensures)
+loop-again c = first-next _ _ _ _ _ (c .before .before .before .before .before .loop .inv) (omega (arith, c .before .before .before .before .before .loop .inv)) (c .before .before .before .before .before .before .before .pre .1) (c .before .before .move-block .ensures)
 
 add-move-run : tie.Need-add-move-run Inv-loop μ-loop
 add-move-run c = search needs
@@ -48,7 +48,7 @@ same-length c = search needs
 returns : tie.Need-returns Inv-loop μ-loop
 returns c =
     let o = c .before .before .before .before .before .loop .inv in
-    up-end _ _ _ _ (up-next _ _ _ _ _ o (omega (arith, o)) (c .before .before .before .before .before .before .before .pre .1) (c .before .before .move-run .ensures)) (omega (arith, o))
+    first-end _ _ _ _ (first-next _ _ _ _ _ o (omega (arith, o)) (c .before .before .before .before .before .before .before .pre .1) (c .before .before .move-run .ensures)) (omega (arith, o))
 
 pub move-apart-spec : {M : Type 1} → statement M
 move-apart-spec =
