@@ -35,7 +35,7 @@ use Rattle.thermal_image.specs.declared.ThermalImage.{ThermalImage}
 use Rattle.refusals.specs.Refusals.{first, unsound, tallRefusal, roomRefusal, marginRefusal}
 use Rattle.thermal_image.specs.Canvas.{canvas, sized, finished, answered, written, papered, lowered, lowerOn}
 use Rattle.refusals.proofs.Codes.{first-some, first-none, first-done, rows-some}
-use Rattle.places.specs.Places.{tallAfter, sideRefusal, emptyRefusal, acrossRefusal, rowsRefusal, putRefusal, rectRefusal, flipTall, flipRefusal}
+use Rattle.places.specs.Places.{tallAfter, sideRefusal, emptyRefusal, acrossRefusal, resultRefusal, putRefusal, rectRefusal, flipTall, flipRefusal}
 use Rattle.drawing.specs.Drawing.{grownTo, placed, pixelsDrawn, putOn, flipOn}
 use Rattle.places.proofs.Codes.{crop-min, crop-grown, tall-grown}
 use Rattle.places.proofs.Equal.{pixel-in, rect-grown}
@@ -68,7 +68,7 @@ module _ (s : List ℕ) (W H : ℕ) (paper : RGBA) (l : List ℕ) (some : 1 ≤ 
   -- ---- a put of all its pixels
 
   put-number : (x y w h : ℕ) → rectRefusal t x y w h (length l) ≡ first (dropping.putRefusal W H x y w h) (roomRefusal W (max H (y + h)) (length l))
-  unfolding dropping.putRefusal sideRefusal rowsRefusal
+  unfolding dropping.putRefusal sideRefusal resultRefusal
   put-number x y w h =
       rect-grown t refl x y w h (length l) sound
       ∙ sym (step (ltb limit w || ltb limit h) _ _ (λ e. omega arith) ∙ ap (first (sideRefusal w h)) (step (leb W x) _ _ (λ e. omega arith)))
@@ -81,13 +81,13 @@ module _ (s : List ℕ) (W H : ℕ) (paper : RGBA) (l : List ℕ) (some : 1 ≤ 
 
   -- an area of a canvas that has grown: an operation's, and an entry's
   placed-area : (x y w h : ℕ) (f : ℕ → ℕ → RGBA → RGBA) → x < W
-      → placed t x y w h (tallAfter t x y w h) f l ≡ areaOn W x y (min w (W - x)) h f (steps.grownTo W paper H (max H (y + h)) l)
-  unfolding placed grownTo papered steps.grownTo
+      → placed t x y w h (tallAfter t x y w h) f l ≡ areaOn W x y (min w (W - x)) h f (papered W H (max H (y + h)) paper l)
+  unfolding placed grownTo
   placed-area x y w h f b = rw (tall-grown t refl x y w h, crop-grown t refl x y w h, crop-min t x y w b)
 
   entry-area : (e : Entry)
       → steps.placedOn s W paper H e l
-      ≡ areaOn W (e .x) (e .y) (e .w) (e .h) (λ i j d. drawn (multiplies (e .mode)) (entryPixel s e i j) d) (steps.grownTo W paper H (max H (e .y + e .h)) l)
+      ≡ areaOn W (e .x) (e .y) (e .w) (e .h) (λ i j d. drawn (multiplies (e .mode)) (entryPixel s e i j) d) (papered W H (max H (e .y + e .h)) paper l)
   unfolding steps.placedOn
   entry-area e =
       let top : e .y + 0 ≡ e .y = omega arith in
@@ -120,13 +120,13 @@ module _ (s : List ℕ) (W H : ℕ) (paper : RGBA) (l : List ℕ) (some : 1 ≤ 
   -- ---- a flip
 
   flip-number : (x y w h : ℕ) → flipRefusal t x y w h (length l) ≡ first (dropping.flipRefusal W H x y w h) (roomRefusal W (max H (y + h)) (length l))
-  unfolding flipRefusal flipTall emptyRefusal acrossRefusal dropping.flipRefusal rowsRefusal
+  unfolding flipRefusal flipTall emptyRefusal acrossRefusal dropping.flipRefusal resultRefusal
   flip-number x y w h =
       sym (first-none _ _ sound)
       ∙ sym (step (eqb w 0 || eqb h 0) _ _ (λ e. omega arith) ∙ ap (first (emptyRefusal w h)) (step (ltb W (x + w)) _ _ (λ e. omega arith)))
 
   flip-same : (out : List ℕ) (x y w h : ℕ) → Same out (Flip x y w h)
-  unfolding outcome dropping.refusal dropping.grown flipTall flipOn written grownTo papered steps.grownTo steps.obeyedOn
+  unfolding outcome dropping.refusal dropping.grown flipTall flipOn written grownTo steps.obeyedOn
   flip-same out x y w h = record { number = flip-number x y w h; answer = λ e. flip-record t x y w h (length l) e; bytes = λ e. rw e refl }
 
   -- ---- an image: decoded, then put

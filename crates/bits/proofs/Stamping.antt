@@ -17,7 +17,7 @@ use Rattle.dots.specs.Tables.{lanes, factors, terms, Whole}
 use Rattle.dots.proofs.Laws.{getD-tab, byte-of, change-idle, drawn-none}
 use Rattle.dots.proofs.Bytes.{Over, over-none, over-step, over-change}
 use Rattle.dots.proofs.Mixed.{mixed, Bytes, lane-at, lanes-fit, mixed-dot}
-use Rattle.bits.specs.Bits.{pixelDrawn}
+use Rattle.bits.specs.Bits.{alphaDrawn}
 use Rattle.bits.specs.Steps.{byteOn, bitOn}
 use Rattle.bits.proofs.Unpacking.{Told, off, lit, told, is-one}
 
@@ -30,12 +30,12 @@ ink c p = record { r = p .r; g = p .g; b = p .g; a = omega arith }
 
 -- ---- the dots of a stretched bit
 
-pub bit-kept : {bit : ℕ} (t : Bool) (c : RGBA) (at n : ℕ) (l : List ℕ) → bit ≡ 0 → l ≡ bitOn (pixelDrawn t c) bit at n l
+pub bit-kept : {bit : ℕ} (t : Bool) (c : RGBA) (at n : ℕ) (l : List ℕ) → bit ≡ 0 → l ≡ bitOn (alphaDrawn t c) bit at n l
 unfolding bitOn
 bit-kept t c at n l z = change-idle (within at (at + n)) _ l (λ i _. rw z (drawn-none t (withAlpha c 0) (dotAt l i) refl))
 
 pub bit-mixed : {bit : ℕ} {p : RGBA} (t : Bool) (c : RGBA) (at n : ℕ) (l : List ℕ) {m : List ℕ} → bit < 2 → bit ≢ 0 → p ≡ withAlpha c 255
-    → m ≡ change (within at (at + n)) (λ _ s. drawn t p s) l → m ≡ bitOn (pixelDrawn t c) bit at n l
+    → m ≡ change (within at (at + n)) (λ _ s. drawn t p s) l → m ≡ bitOn (alphaDrawn t c) bit at n l
 unfolding bitOn
 bit-mixed {bit} t c at n l h z ep em = let o : bit ≡ 1 = is-one h z in em ∙ rw (ep, o)
 
@@ -70,20 +70,20 @@ module _ (byte : ℕ) (masks m k : List ℕ) where
     stamp-fits j h = rw (lane-at _ em j h, lane-at _ ek j h) (lanes-fit t (withAlpha c 255) (ink c p) (j % 4) (omega arith))
 
     pub stamp-end : (at n : ℕ) (l b : List ℕ) → ((i : ℕ) → getD l i 0 ≤ 255) → masks ≡ tab 32 (λ j. 2 ^ (7 - j / 4)) → n ≤ 8 → (at + n) * 4 ≤ length l
-        → Stamps (at * 4) (n * 4) l b → b ≡ byteOn (pixelDrawn t c) byte at n l
+        → Stamps (at * 4) (n * 4) l b → b ≡ byteOn (alphaDrawn t c) byte at n l
     unfolding byteOn
     stamp-end at n l b q es few h o =
         let e : at * 4 + n * 4 ≡ (at + n) * 4 = omega arith in
         over-change at (at + n) _ l b _ h (rw e at o) one
       where
         dot : (i : ℕ) (s : RGBA) → Bytes s → {w : Bool} {x : ℕ} → Told w x → (j : ℕ) → j < 4
-            → stamped w (chan (factors t (withAlpha c 255)) j) (chan (terms t (withAlpha c 255)) j) (chan s j) ≡ chan (pixelDrawn t c (x * 255) s) j
+            → stamped w (chan (factors t (withAlpha c 255)) j) (chan (terms t (withAlpha c 255)) j) (chan s j) ≡ chan (alphaDrawn t c (x * 255) s) j
         dot i s bs (off e f) j u = rw (e, f) (ap (λ (d : RGBA). chan d j) (drawn-none t (withAlpha c 0) s refl))
         dot i s bs (lit e f) j u = rw (e, f) (mixed-dot t (withAlpha c 255) s (ink c p) bs (full t c) j u)
 
         one : (i : ℕ) → at * 4 ≤ i → i < (at + n) * 4
             → stamped (on byte masks (i - at * 4)) (getD m (i - at * 4) 0) (getD k (i - at * 4) 0) (getD l i 0)
-            ≡ chan (pixelDrawn t c (byte / 2 ^ (7 - (i / 4 - at)) % 2 * 255) (dotAt l (i / 4))) (i % 4)
+            ≡ chan (alphaDrawn t c (byte / 2 ^ (7 - (i / 4 - at)) % 2 * 255) (dotAt l (i / 4))) (i % 4)
         one i u v =
             let z : (i - at * 4) % 4 ≡ i % 4 = omega arith in
             let y : (i - at * 4) / 4 ≡ i / 4 - at = omega arith in

@@ -39,5 +39,5 @@ abbrev pub pixelLanded : Bool → RGBA → ℕ → RGBA → RGBA
 pixelLanded blend c alpha d = landed blend (withAlpha c alpha) d
 
 -- the pixel of an alpha drawn on a dot, blending or multiplying
-abbrev pub pixelDrawn : Bool → RGBA → ℕ → RGBA → RGBA
-pixelDrawn multiply c alpha d = drawn multiply (withAlpha c alpha) d
+abbrev pub alphaDrawn : Bool → RGBA → ℕ → RGBA → RGBA
+alphaDrawn multiply c alpha d = drawn multiply (withAlpha c alpha) d

@@ -8,7 +8,7 @@ ghost use Rattle.colour.specs.Choice.{if_then_else_};
 ghost use Rattle.colour.specs.Colour.{withAlpha};
 ghost use Rattle.dots.specs.Dots.{tab};
 ghost use Rattle.dots.specs.Tables.{lanes, factors, terms};
-ghost use Rattle.bits.specs.Bits.{Shown, bitsOn, pixelDrawn};
+ghost use Rattle.bits.specs.Bits.{Shown, bitsOn, alphaDrawn};
 ghost use Rattle.bits.specs.Steps.{byteOn, bitOn};
 use super::bit::bit_at;
 use super::bit::least;
@@ -42,7 +42,7 @@ fn stamp_some(
 )
     requires { ⌜ (n ≤ 8) × ((at + n) * 4 ≤ length (now buf)) × (now masks ≡ tab 32 (λ j. 2 ^ (7 - j / 4))) ⌝ }
     requires { ⌜ (now m ≡ lanes (factors multiply (withAlpha color 255))) × (now k ≡ lanes (terms multiply (withAlpha color 255))) ⌝ }
-    ensures { λ _. ⌜ now (buf .exit) ≡ byteOn (pixelDrawn multiply color) byte at n (now (buf .entry)) ⌝ }
+    ensures { λ _. ⌜ now (buf .exit) ≡ byteOn (alphaDrawn multiply color) byte at n (now (buf .entry)) ⌝ }
 {
     let from = at * 4;
     let end = n * 4;
@@ -67,7 +67,7 @@ fn stamp_eights(
 )
     requires { ⌜ ((at + count) * 4 ≤ length (now buf)) × Shown from 1 count (length (now «data»)) ⌝ }
     requires { ⌜ (now m ≡ lanes (factors multiply (withAlpha color 255))) × (now k ≡ lanes (terms multiply (withAlpha color 255))) ⌝ }
-    ensures { λ _. ⌜ now (buf .exit) ≡ bitsOn (pixelDrawn multiply color) (now («data» .entry)) from 1 at count (now (buf .entry)) ⌝ }
+    ensures { λ _. ⌜ now (buf .exit) ≡ bitsOn (alphaDrawn multiply color) (now («data» .entry)) from 1 at count (now (buf .entry)) ⌝ }
 {
     let masks = [
         128,
@@ -134,7 +134,7 @@ fn stamp_bit(
 )
     requires { ⌜ ((at + n) * 4 ≤ length (now buf)) × (bit < 2) ⌝ }
     requires { ⌜ (now m ≡ lanes (factors multiply (withAlpha color 255))) × (now k ≡ lanes (terms multiply (withAlpha color 255))) ⌝ }
-    ensures { λ _. ⌜ now (buf .exit) ≡ bitOn (pixelDrawn multiply color) bit at n (now (buf .entry)) ⌝ }
+    ensures { λ _. ⌜ now (buf .exit) ≡ bitOn (alphaDrawn multiply color) bit at n (now (buf .entry)) ⌝ }
 {
     if bit == 0 {
         return;
@@ -157,7 +157,7 @@ fn stamp_stretched(
 )
     requires { ⌜ ((at + count) * 4 ≤ length (now buf)) × (0 < fx) × (count ≤ limit) × Shown from fx count (length (now «data»)) ⌝ }
     requires { ⌜ (now m ≡ lanes (factors multiply (withAlpha color 255))) × (now k ≡ lanes (terms multiply (withAlpha color 255))) ⌝ }
-    ensures { λ _. ⌜ now (buf .exit) ≡ bitsOn (pixelDrawn multiply color) (now («data» .entry)) from fx at count (now (buf .entry)) ⌝ }
+    ensures { λ _. ⌜ now (buf .exit) ≡ bitsOn (alphaDrawn multiply color) (now («data» .entry)) from fx at count (now (buf .entry)) ⌝ }
 {
     let mut x = 0;
     let mut i = 0;
@@ -184,7 +184,7 @@ pub fn stamp_row(
 )
     requires { ⌜ ((at + count) * 4 ≤ length (now buf)) × (0 < fx) × (count ≤ limit) × Shown from fx count (length (now «data»)) ⌝ }
     requires { ⌜ (now m ≡ lanes (factors multiply (withAlpha color 255))) × (now k ≡ lanes (terms multiply (withAlpha color 255))) ⌝ }
-    ensures { λ _. ⌜ now (buf .exit) ≡ bitsOn (pixelDrawn multiply color) (now («data» .entry)) from fx at count (now (buf .entry)) ⌝ }
+    ensures { λ _. ⌜ now (buf .exit) ≡ bitsOn (alphaDrawn multiply color) (now («data» .entry)) from fx at count (now (buf .entry)) ⌝ }
 {
     if fx == 1 {
         stamp_eights(buf, at, count, data, from, color, multiply, m, k);

@@ -12,7 +12,7 @@ use Rattle.colour.specs.Colour.{withAlpha}
 use Rattle.colour.proofs.Tests.{and-both}
 use Rattle.dots.specs.Dots.{dotAt, change, within, drawn}
 use Rattle.dots.proofs.Laws.{change-by}
-use Rattle.bits.specs.Bits.{rowBytes, bitAlpha, Shown, bitsOn, pixelDrawn}
+use Rattle.bits.specs.Bits.{rowBytes, bitAlpha, Shown, bitsOn, alphaDrawn}
 use Rattle.images.specs.Formats.{alphaOf, bytesOf}
 use Rattle.images.specs.Stretching.{pixelOf}
 use Rattle.entries.specs.declared.Entry.{Entry}
@@ -64,7 +64,7 @@ alpha-drop s start at k =
 
 -- a row of bits is the entry's own row j
 pub image-is-row : (s : List ℕ) (e : Entry) (t : Bool) (at j : ℕ) (l : List ℕ) {m : List ℕ}
-    → m ≡ bitsOn (pixelDrawn t (e .color)) s (e .start + j / e .«stretch_y» * rowBytes (e .«original_width»)) (e .«stretch_x») at (e .w) l
+    → m ≡ bitsOn (alphaDrawn t (e .color)) s (e .start + j / e .«stretch_y» * rowBytes (e .«original_width»)) (e .«stretch_x») at (e .w) l
     → m ≡ change (within at (at + e .w)) (λ i d. drawn t (imagePixel s e (i - at) j) d) l
 unfolding bitsOn imagePixel pixelOf alphaOf
 image-is-row s e t at j l em =

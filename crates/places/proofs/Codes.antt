@@ -11,7 +11,7 @@ use Rattle.colour.proofs.Tests.{and-both, neither}
 use Rattle.thermal_image.specs.declared.ThermalImage.{ThermalImage}
 use Rattle.refusals.specs.Refusals.{first, unsound, growRefusal}
 use Rattle.refusals.proofs.Codes.{first-none, first-done, passed, room-done}
-use Rattle.places.specs.Places.{cropped, cropWide, cropTall, sideRefusal, offRefusal, emptyRefusal, acrossRefusal, rowsRefusal, placeRefusal, tallAfter, flips, imageTall, flipTall, flipRefusal, borderRefusal}
+use Rattle.places.specs.Places.{cropped, cropWide, cropTall, sideRefusal, offRefusal, emptyRefusal, acrossRefusal, resultRefusal, placeRefusal, tallAfter, flips, imageTall, flipTall, flipRefusal, borderRefusal}
 use Rattle.places.specs.Steps.{Ready}
 
 -- ---- what cropping leaves
@@ -85,8 +85,8 @@ first-both : (a b : ℕ) → a ≡ done → b ≡ done → first a b ≡ done
 first-both a b e f = sym (first-none a b e) ∙ f
 
 -- a canvas with more rows that 8 and 1 let pass may grow to them
-grows-to : (t : ThermalImage) (rows n : ℕ) → t .height ≤ rows → unsound (t .width) (t .height) n ≡ done → rowsRefusal (t .width) rows n ≡ done → growRefusal (t .width) (t .height) rows n ≡ done
-unfolding growRefusal rowsRefusal
+grows-to : (t : ThermalImage) (rows n : ℕ) → t .height ≤ rows → unsound (t .width) (t .height) n ≡ done → resultRefusal (t .width) rows n ≡ done → growRefusal (t .width) (t .height) rows n ≡ done
+unfolding growRefusal resultRefusal
 grows-to t rows n h e f =
     let a = first-done _ _ f in
     let m : max (t .height) rows ≡ rows = omega arith in

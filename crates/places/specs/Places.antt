@@ -68,9 +68,9 @@ emptyRefusal w h = if eqb w 0 || eqb h 0 then emptyArea else done
 unfoldable pub acrossRefusal : ThermalImage → ℕ → ℕ → ℕ
 acrossRefusal t x w = if ltb (t .width) (x + w) then offPaper else done
 
--- 8, 1: a canvas W wide with that many rows
-unfoldable pub rowsRefusal : ℕ → ℕ → ℕ → ℕ
-rowsRefusal W rows n = first (tallRefusal rows) (roomRefusal W rows n)
+-- 8, 1: the canvas that results, W wide with that many rows
+unfoldable pub resultRefusal : ℕ → ℕ → ℕ → ℕ
+resultRefusal W rows n = first (tallRefusal rows) (roomRefusal W rows n)
 
 -- ---- the orders
 
@@ -83,7 +83,7 @@ placeRefusal t x y w h bytes rows n =
     (first (manyRefusal w h (bytes / 4))
     (first (offRefusal t x y)
     (first (shortRefusal t x y w h (bytes / 4))
-    (rowsRefusal (t .width) rows n))))))
+    (resultRefusal (t .width) rows n))))))
 
 -- a put of pixels
 unfoldable pub putRefusal : ThermalImage → ℕ → ℕ → ℕ → ℕ → ℕ → ℕ → ℕ
@@ -103,7 +103,7 @@ flipRefusal t x y w h n =
     first (unsound (t .width) (t .height) n)
     (first (emptyRefusal w h)
     (first (acrossRefusal t x w)
-    (rowsRefusal (t .width) (flipTall t y h) n)))
+    (resultRefusal (t .width) (flipTall t y h) n)))
 
 -- a border on a picture that fills the first 4·w·h bytes of a buffer: 2, 10, 1
 unfoldable pub borderRefusal : ℕ → ℕ → ℕ → ℕ

@@ -2,7 +2,7 @@
 // usize.
 ghost use mathlib.Core.Path.{_≡_};
 ghost use Prim.Native.Nat.{_*_};
-ghost use Rattle.places.specs.Places.{lengthRefusal, sideRefusal, manyRefusal, offRefusal, shortRefusal, emptyRefusal, acrossRefusal, rowsRefusal, placeRefusal, flipRefusal, borderRefusal};
+ghost use Rattle.places.specs.Places.{lengthRefusal, sideRefusal, manyRefusal, offRefusal, shortRefusal, emptyRefusal, acrossRefusal, resultRefusal, placeRefusal, flipRefusal, borderRefusal};
 use super::sizes::crop_pixels;
 use super::sizes::cropped;
 use super::sizes::flip_tall;
@@ -101,8 +101,8 @@ fn across_refusal(t: ThermalImage, x: u32, w: u32) -> u8
     DONE
 }
 
-fn rows_refusal(w: u32, rows: usize, n: usize) -> u8
-    ensures { λ r. ⌜ r ≡ rowsRefusal w rows n ⌝ }
+fn result_refusal(w: u32, rows: usize, n: usize) -> u8
+    ensures { λ r. ⌜ r ≡ resultRefusal w rows n ⌝ }
 {
     if rows > ThermalImage::LIMIT as usize {
         return TOO_TALL;
@@ -125,7 +125,7 @@ pub fn place_refusal(
 {
     let end = first(
         short_refusal(t, x, y, w, h, bytes / 4),
-        rows_refusal(t.width, rows, n),
+        result_refusal(t.width, rows, n),
     );
     let place = first(off_refusal(t, x, y), end);
     let many = first(many_refusal(w, h, bytes / 4), place);
@@ -137,7 +137,7 @@ pub fn place_refusal(
 pub fn rect_refusal(t: ThermalImage, x: u32, y: u32, w: u32, h: u32, rows: usize, n: usize) -> u8
     ensures { λ r. ⌜ r ≡ placeRefusal t x y w h (4 * (w * h)) rows n ⌝ }
 {
-    let place = first(off_refusal(t, x, y), rows_refusal(t.width, rows, n));
+    let place = first(off_refusal(t, x, y), result_refusal(t.width, rows, n));
     first(
         unsound(t.width, t.height, n),
         first(side_refusal(w, h), place),
@@ -149,7 +149,7 @@ pub fn flip_refusal(t: ThermalImage, x: u32, y: u32, w: u32, h: u32, n: usize) -
 {
     let place = first(
         across_refusal(t, x, w),
-        rows_refusal(t.width, flip_tall(t, y, h), n),
+        result_refusal(t.width, flip_tall(t, y, h), n),
     );
     first(
         unsound(t.width, t.height, n),

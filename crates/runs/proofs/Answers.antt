@@ -25,12 +25,12 @@ use Rattle.entries.specs.declared.Entry.{Entry}
 use Rattle.entries.specs.Entries.{rectangleEntry, imageEntry, goodEntry, entryRows, Placed}
 use Rattle.entries.proofs.Good.{rectangle-good, image-good}
 use Rattle.refusals.specs.Refusals.{first, roomRefusal}
-use Rattle.thermal_image.specs.Canvas.{canvas, written}
+use Rattle.thermal_image.specs.Canvas.{canvas, written, papered}
 use Rattle.runs.specs.declared.Ran.{Ran}
 use Rattle.runs.specs.declared.survey.Survey.{Survey}
 use Rattle.runs.specs.Pictures.{shown}
 use Rattle.runs.specs.Run.{runRefusal, runPicture, runCanvas, refusedRun, ran, runOn}
-use Rattle.runs.specs.Steps.{surveyWith, leftOut, reached, seen, grownTo, placedOn, obeyedOn, steppedOn, Room}
+use Rattle.runs.specs.Steps.{surveyWith, leftOut, reached, seen, placedOn, obeyedOn, steppedOn, Room}
 
 pub dots-fit : (a b : ℕ) → a ≤ limit → b ≤ limit → a * b ≤ 268435456
 dots-fit a b h k = mul-le-mul h k
@@ -49,12 +49,12 @@ module _ (W : ℕ) (v : Survey) (k : ℕ) (d : Command) {why : ℕ} (e : why ≡
 -- ---- growing
 
 module _ (W : ℕ) (paper : RGBA) (H end : ℕ) (l : List ℕ) where
-  pub grow-none : end ≤ H → (H ≡ max H end) × (l ≡ grownTo W paper H (max H end) l)
-  unfolding grownTo
+  pub grow-none : end ≤ H → (H ≡ max H end) × (l ≡ papered W H (max H end) paper l)
+  unfolding papered
   grow-none h = let e : H ≡ max H end = omega arith in (e, rw (← e) (run-none (W * H) _ l))
 
-  pub grow-some : H < end → {m : List ℕ} → m ≡ change (within (W * H) (W * H + (W * end - W * H))) (λ _ _. paper) l → (end ≡ max H end) × (m ≡ grownTo W paper H (max H end) l)
-  unfolding grownTo
+  pub grow-some : H < end → {m : List ℕ} → m ≡ change (within (W * H) (W * H + (W * end - W * H))) (λ _ _. paper) l → (end ≡ max H end) × (m ≡ papered W H (max H end) paper l)
+  unfolding papered
   grow-some h g =
       let e : end ≡ max H end = omega arith in
       let t : W * H + (W * end - W * H) ≡ W * end = omega (arith, mul-le-mul-left W h) in
@@ -68,8 +68,8 @@ module _ (W : ℕ) (paper : RGBA) (H end : ℕ) (l : List ℕ) where
 
 -- ---- an entry placed
 
-pub place-asks : (W H y h : ℕ) (paper : RGBA) (l : List ℕ) {b : List ℕ} → Room W (max H (y + h)) (length l) → b ≡ grownTo W paper H (max H (y + h)) l → Placed W y y h (length b)
-unfolding grownTo
+pub place-asks : (W H y h : ℕ) (paper : RGBA) (l : List ℕ) {b : List ℕ} → Room W (max H (y + h)) (length l) → b ≡ papered W H (max H (y + h)) paper l → Placed W y y h (length b)
+unfolding papered
 place-asks W H y h paper l r e =
     record {
       some = r .some;
@@ -81,7 +81,7 @@ place-asks W H y h paper l r e =
     below : (a b : ℕ) → b ≤ max a b
     below a b = omega arith
 
-pub place-answers : (s : List ℕ) (W : ℕ) (paper : RGBA) (H : ℕ) (e : Entry) (l : List ℕ) {b m : List ℕ} → b ≡ grownTo W paper H (max H (e .y + e .h)) l
+pub place-answers : (s : List ℕ) (W : ℕ) (paper : RGBA) (H : ℕ) (e : Entry) (l : List ℕ) {b m : List ℕ} → b ≡ papered W H (max H (e .y + e .h)) paper l
     → m ≡ entryRows s e W (e .y) (e .y) (e .h) b → m ≡ placedOn s W paper H e l
 unfolding placedOn
 place-answers s W paper H e l g f = f ∙ rw g refl
@@ -104,7 +104,7 @@ module _ (s : List ℕ) (W : ℕ) (paper : RGBA) (H : ℕ) (l : List ℕ) {r : �
   unfolding grown obeyedOn
   margin-obeyed n g f = (g, f)
 
-  pub flip-obeyed : (x y w h : ℕ) → r ≡ max H (y + h) → {b : List ℕ} → b ≡ grownTo W paper H (max H (y + h)) l → m ≡ flippedOn W x y w h b
+  pub flip-obeyed : (x y w h : ℕ) → r ≡ max H (y + h) → {b : List ℕ} → b ≡ papered W H (max H (y + h)) paper l → m ≡ flippedOn W x y w h b
       → (r ≡ grown H (Flip x y w h)) × (m ≡ obeyedOn s W paper H (Flip x y w h) l)
   unfolding grown obeyedOn
   flip-obeyed x y w h g e f = (g, f ∙ rw e refl)
@@ -166,7 +166,7 @@ margin-asks W H m r = omega (arith, r .room, mul-add W H m)
 pub margin-fits : (W H m : ℕ) {n : ℕ} → Room W (H + m) n → W * m ≤ 268435456
 margin-fits W H m r = dots-fit W m (r .wide) (omega (arith, r .tall))
 
-pub flip-asks : (W H x y w h : ℕ) (paper : RGBA) (l : List ℕ) {b : List ℕ} → Room W (max H (y + h)) (length l) → x + w ≤ W → b ≡ grownTo W paper H (max H (y + h)) l → Fits W x y w h (length b)
+pub flip-asks : (W H x y w h : ℕ) (paper : RGBA) (l : List ℕ) {b : List ℕ} → Room W (max H (y + h)) (length l) → x + w ≤ W → b ≡ papered W H (max H (y + h)) paper l → Fits W x y w h (length b)
 flip-asks W H x y w h paper l r a e = let p = place-asks W H y h paper l r e in record { some = r .some; across = a; down = p .room }
 
 -- ---- the answer

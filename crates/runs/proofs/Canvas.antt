@@ -25,8 +25,9 @@ use Rattle.job.specs.declared.commands.Command.the-variants.{Rectangle, Image, 
 use Rattle.job.specs.Dropping.{refusal, grown}
 use Rattle.entries.specs.declared.Entry.{Entry}
 use Rattle.entries.specs.Entries.{rectangleEntry, imageEntry, entryOn, entryRows}
+use Rattle.thermal_image.specs.Canvas.{papered}
 use Rattle.runs.specs.Pictures.{Picture, withImage, withMargin, withMirror, after, shown}
-use Rattle.runs.specs.Steps.{grownTo, placedOn, obeyedOn}
+use Rattle.runs.specs.Steps.{placedOn, obeyedOn}
 use Rattle.runs.proofs.Pictures.{rectangle-after, image-after, dot-before, dot-from, length-shown, shown-past, shown-dot, shown-ext}
 
 -- a picture is paper from row H on
@@ -40,8 +41,8 @@ module _ (W : ℕ) (some : 0 < W) (l : List ℕ) where
       shown-ext W H q l r (shown W H p l) some (length-shown W H p l) (λ i j a b. shown-dot W H p l r i j a b ∙ e i j a) (shown-past W H p l)
 
   -- growing shows more of the paper
-  pub shown-grown : (paper : RGBA) (p : Picture) (H H' : ℕ) → Bare paper H p → H ≤ H' → W * H' * 4 ≤ length l → grownTo W paper H H' (shown W H p l) ≡ shown W H' p l
-  unfolding grownTo
+  pub shown-grown : (paper : RGBA) (p : Picture) (H H' : ℕ) → Bare paper H p → H ≤ H' → W * H' * 4 ≤ length l → papered W H H' paper (shown W H p l) ≡ shown W H' p l
+  unfolding papered
   shown-grown paper p H H' bare h r =
       let m = mul-le-mul-left W h in
       shown-ext W H' p l r _ some (length-change _ _ _ ∙ length-shown W H p l) (λ i j a b. at i j a b (below j H))

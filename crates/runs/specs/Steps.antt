@@ -5,7 +5,6 @@ use lib.ListN.{length, set}
 use Rattle.numbers.specs.Numbers.{limit}
 use Rattle.colour.specs.Choice.{if_then_else_}
 use Rattle.colour.specs.declared.RGBA.{RGBA}
-use Rattle.dots.specs.Dots.{change, within}
 use Rattle.images.specs.Stretching.{factor}
 use Rattle.areas.specs.Areas.{flippedOn}
 use Rattle.moves.specs.Moves.{loweredOn}
@@ -15,6 +14,7 @@ use Rattle.job.specs.declared.commands.Command.the-variants.{Rectangle, Image, 
 use Rattle.job.specs.Dropping.{refusal, grown, kept, noDropped, padded}
 use Rattle.entries.specs.declared.Entry.{Entry}
 use Rattle.entries.specs.Entries.{rectangleEntry, imageEntry, entryRows}
+use Rattle.thermal_image.specs.Canvas.{papered}
 use Rattle.runs.specs.declared.survey.Survey.{Survey}
 
 -- ---- the survey: the height and the dropped list so far
@@ -37,19 +37,15 @@ seen W v k c = if kept W (v .height) c then reached v (grown (v .height) c) else
 
 -- ---- the bytes
 
--- grown from H to H' rows: new dots are paper
-unfoldable pub grownTo : ℕ → RGBA → ℕ → ℕ → List ℕ → List ℕ
-grownTo W paper H H' l = change (within (W * H) (W * H')) (λ _ _. paper) l
-
 -- a canvas high enough for the entry, with the entry drawn
 unfoldable pub placedOn : List ℕ → ℕ → RGBA → ℕ → Entry → List ℕ → List ℕ
-placedOn s W paper H e l = entryRows s e W (e .y) (e .y) (e .h) (grownTo W paper H (max H (e .y + e .h)) l)
+placedOn s W paper H e l = entryRows s e W (e .y) (e .y) (e .h) (papered W H (max H (e .y + e .h)) paper l)
 
 unfoldable pub obeyedOn : List ℕ → ℕ → RGBA → ℕ → Command → List ℕ → List ℕ
 obeyedOn s W paper H (Rectangle x y w h c mode) l = placedOn s W paper H (rectangleEntry W x y w h c mode) l
 obeyedOn s W paper H (Image x y w h sx sy c mode start size) l = placedOn s W paper H (imageEntry W x y w h (factor sx) (factor sy) c mode start) l
 obeyedOn s W paper H (Margin m) l = loweredOn (W * H) (W * m) paper l
-obeyedOn s W paper H (Flip x y w h) l = flippedOn W x y w h (grownTo W paper H (max H (y + h)) l)
+obeyedOn s W paper H (Flip x y w h) l = flippedOn W x y w h (papered W H (max H (y + h)) paper l)
 
 -- a dropped command changes nothing
 unfoldable pub steppedOn : List ℕ → ℕ → RGBA → ℕ → Command → List ℕ → List ℕ

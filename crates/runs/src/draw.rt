@@ -11,7 +11,8 @@ ghost use Rattle.job.proofs.Soundness.{Held};
 ghost use Rattle.entries.specs.Entries.{goodEntry};
 ghost use Rattle.runs.specs.Pictures.{shown};
 ghost use Rattle.runs.specs.Run.{runPicture};
-ghost use Rattle.runs.specs.Steps.{grownTo, placedOn, steppedOn, Room};
+ghost use Rattle.thermal_image.specs.Canvas.{papered};
+ghost use Rattle.runs.specs.Steps.{placedOn, steppedOn, Room};
 use areas::flip_area;
 use colour::RGBA;
 use dots::fill_run;
@@ -27,7 +28,7 @@ use numbers::DONE;
 fn grow(buf: &mut [u8], width: u32, height: u32, end: u32, paper: RGBA) -> u32
     requires { ⌜ Room width (max height end) (length (now buf)) ⌝ }
     ensures { λ r. ⌜ r ≡ max height end ⌝ }
-    ensures { λ _. ⌜ now (buf .exit) ≡ grownTo width paper height (max height end) (now (buf .entry)) ⌝ }
+    ensures { λ _. ⌜ now (buf .exit) ≡ papered width height (max height end) paper (now (buf .entry)) ⌝ }
 {
     if end <= height {
         return height;

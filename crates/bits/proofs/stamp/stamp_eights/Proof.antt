@@ -3,14 +3,14 @@ use mathlib.Core.Path.{refl}
 use Prim.Native.Nat.{_-_}
 use native.Mathlib.Omega.{arith}
 use Rattle.dots.specs.Dots.{tab}
-use Rattle.bits.specs.Bits.{pixelDrawn}
+use Rattle.bits.specs.Bits.{alphaDrawn}
 use Rattle.bits.proofs.Rows.{Bits, byte-shown, bits-start, bits-next, bits-end}
 use borrow.Author.Needs.{needs}
 use Rattle.bits.proofs.stamp.stamp_eights.Statement.{statement}
 use Rattle.bits.proofs.stamp.stamp_eights.Tie as tie
 
 abbrev Inv-loop : tie.InvT-loop
-Inv-loop buf₀ at count «data» from color multiply m k masks i₀ buf i = Bits (pixelDrawn multiply color) «data» from at count buf₀ i buf
+Inv-loop buf₀ at count «data» from color multiply m k masks i₀ buf i = Bits (alphaDrawn multiply color) «data» from at count buf₀ i buf
 
 abbrev μ-loop : tie.MeasureT-loop
 μ-loop buf₀ at count «data» from color multiply m k masks i₀ buf i = count - i

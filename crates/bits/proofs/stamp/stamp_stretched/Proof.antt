@@ -2,14 +2,14 @@
 use Prim.Native.Nat.{_-_}
 use native.Mathlib.Nat.{mod-lt}
 use native.Mathlib.Omega.{arith}
-use Rattle.bits.specs.Bits.{pixelDrawn}
+use Rattle.bits.specs.Bits.{alphaDrawn}
 use Rattle.bits.proofs.Stretching.{Stretch, stretch-start, stretch-shown, stretch-next, stretch-end}
 use borrow.Author.Needs.{needs}
 use Rattle.bits.proofs.stamp.stamp_stretched.Statement.{statement}
 use Rattle.bits.proofs.stamp.stamp_stretched.Tie as tie
 
 abbrev Inv-loop : tie.InvT-loop
-Inv-loop buf₀ at count «data» from fx color multiply m k x₀ i₀ buf x i = Stretch (pixelDrawn multiply color) «data» from fx at count buf₀ x i buf
+Inv-loop buf₀ at count «data» from fx color multiply m k x₀ i₀ buf x i = Stretch (alphaDrawn multiply color) «data» from fx at count buf₀ x i buf
 
 abbrev μ-loop : tie.MeasureT-loop
 μ-loop buf₀ at count «data» from fx color multiply m k x₀ i₀ buf x i = count - i

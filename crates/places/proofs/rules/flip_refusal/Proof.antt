@@ -11,8 +11,8 @@ across-refusal-requires c κs = search needs
 flip-tall-requires : tie.Need-flip-tall-requires
 flip-tall-requires c κs = search needs
 
-rows-refusal-requires : tie.Need-rows-refusal-requires
-rows-refusal-requires c κs = search needs
+result-refusal-requires : tie.Need-result-refusal-requires
+result-refusal-requires c κs = search needs
 
 first-requires : tie.Need-first-requires
 first-requires c κs = search needs
@@ -39,7 +39,7 @@ returns c =
     let r = f .before in
     let t = r .before in
     c .first3 .ensures
-    ∙ rw (u .unsound .ensures, g .first2 .ensures, e .empty-refusal .ensures, f .first .ensures, t .before .across-refusal .ensures, r .rows-refusal .ensures, t .flip-tall .ensures)
+    ∙ rw (u .unsound .ensures, g .first2 .ensures, e .empty-refusal .ensures, f .first .ensures, t .before .across-refusal .ensures, r .result-refusal .ensures, t .flip-tall .ensures)
 
 pub flip-refusal-spec : {M : Type 1} → statement M
 flip-refusal-spec =
@@ -47,7 +47,7 @@ flip-refusal-spec =
     (tie.spec
     across-refusal-requires
     flip-tall-requires
-    rows-refusal-requires
+    result-refusal-requires
     first-requires
     unsound-requires
     empty-refusal-requires

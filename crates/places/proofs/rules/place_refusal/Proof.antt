@@ -8,8 +8,8 @@ use Rattle.places.proofs.rules.place_refusal.Tie as tie
 short-refusal-requires : tie.Need-short-refusal-requires
 short-refusal-requires c κs = search needs
 
-rows-refusal-requires : tie.Need-rows-refusal-requires
-rows-refusal-requires c κs = search needs
+result-refusal-requires : tie.Need-result-refusal-requires
+result-refusal-requires c κs = search needs
 
 first-requires : tie.Need-first-requires
 first-requires c κs = search needs
@@ -60,14 +60,14 @@ returns c =
     let r = e .before in
     c .first6 .ensures
     ∙ rw (u .unsound .ensures, f .first5 .ensures, l .length-refusal .ensures, g .first4 .ensures, s .side-refusal .ensures, k .first3 .ensures)
-    (rw (m .many-refusal .ensures, p .first2 .ensures, o .off-refusal .ensures, e .first .ensures, r .before .short-refusal .ensures, r .rows-refusal .ensures))
+    (rw (m .many-refusal .ensures, p .first2 .ensures, o .off-refusal .ensures, e .first .ensures, r .before .short-refusal .ensures, r .result-refusal .ensures))
 
 pub place-refusal-spec : {M : Type 1} → statement M
 place-refusal-spec =
     tie.close
     (tie.spec
     short-refusal-requires
-    rows-refusal-requires
+    result-refusal-requires
     first-requires
     off-refusal-requires
     first-requires-2

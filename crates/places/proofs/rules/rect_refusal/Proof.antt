@@ -8,8 +8,8 @@ use Rattle.places.proofs.rules.rect_refusal.Tie as tie
 off-refusal-requires : tie.Need-off-refusal-requires
 off-refusal-requires c κs = search needs
 
-rows-refusal-requires : tie.Need-rows-refusal-requires
-rows-refusal-requires c κs = search needs
+result-refusal-requires : tie.Need-result-refusal-requires
+result-refusal-requires c κs = search needs
 
 first-requires : tie.Need-first-requires
 first-requires c κs = search needs
@@ -34,14 +34,14 @@ returns c =
     let f = u .before in
     let r = f .before in
     rw (equal-refusal _ _ _ _ _ _ _) (c .first3 .ensures
-    ∙ rw (u .unsound .ensures, g .first2 .ensures, s .side-refusal .ensures, f .first .ensures, r .before .off-refusal .ensures, r .rows-refusal .ensures))
+    ∙ rw (u .unsound .ensures, g .first2 .ensures, s .side-refusal .ensures, f .first .ensures, r .before .off-refusal .ensures, r .result-refusal .ensures))
 
 pub rect-refusal-spec : {M : Type 1} → statement M
 rect-refusal-spec =
     tie.close
     (tie.spec
     off-refusal-requires
-    rows-refusal-requires
+    result-refusal-requires
     first-requires
     unsound-requires
     side-refusal-requires
