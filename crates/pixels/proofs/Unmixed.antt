@@ -1,8 +1,8 @@
 -- Pixels that need no mixing: how they are told, and that they leave their dots where they do not cover them. Assumes nothing.
-use mathlib.Core.Path.{_≡_, refl, _∙_}
+use mathlib.Core.Path.{_≡_, refl, sym, _∙_}
 use mathlib.Core.Logic.{_⊎_, inl, inr, ⊎-elim}
 use mathlib.Core.List.{List}
-use mathlib.Core.Bool.{Bool, true, false, _&&_, and-true, and-false, or-true, or-false}
+use mathlib.Core.Bool.{Bool, true, false, _&&_, and-true, and-false, or-true, or-false, true≢false}
 use Prim.Native.Nat.{ℕ, suc, _+_, _<_}
 use native.Mathlib.Numerals.{add-one}
 use native.Mathlib.Omega.{arith}
@@ -24,9 +24,10 @@ module _ (p : RGBA) where
   unmixed-more t (inl e) = rw (eq-eqb (p .a) 0 e, and-true)
   unmixed-more t (inr e) = rw (eq-eqb (p .a) 255 e, or-true, and-true)
 
-  pub unmixed-leaves : (s : RGBA) → unmixed p ≡ true → (p .a ≡ 255 → ⊥) → s ≡ drawn false p s
+  pub unmixed-leaves : {t : Bool} (s : RGBA) → (t ≡ true) ⊎ (unmixed p ≡ true) → t ≡ false → (p .a ≡ 255 → ⊥) → s ≡ drawn t p s
   unfolding unmixed
-  unmixed-leaves s e f = drawn-none false p s (eqb-true (p .a) 0 (rw (ne-eqb (p .a) 255 f, or-false) at e))
+  unmixed-leaves s (inl e) f n = absurd (true≢false (sym e ∙ f))
+  unmixed-leaves {t} s (inr e) f n = drawn-none t p s (eqb-true (p .a) 0 (rw (ne-eqb (p .a) 255 n, or-false) at e))
 
 -- ---- all of count pixels
 

@@ -1,12 +1,12 @@
--- `pixels::cover::all_unmixed` meets its contract. Assumes nothing.
+-- `pixels::mixing::all_unmixed` meets its contract. Assumes nothing.
 use native.Mathlib.Omega.{arith}
 use mathlib.Core.Path.{_≡_}
 use Prim.Native.Nat.{_-_, _≤_}
 use Rattle.pixels.specs.Steps.{allUnmixed}
 use Rattle.pixels.proofs.Unmixed.{all-unmixed-none, all-unmixed-next}
 use borrow.Author.Needs.{needs}
-use Rattle.pixels.proofs.cover.all_unmixed.Statement.{statement}
-use Rattle.pixels.proofs.cover.all_unmixed.Tie as tie
+use Rattle.pixels.proofs.mixing.all_unmixed.Statement.{statement}
+use Rattle.pixels.proofs.mixing.all_unmixed.Tie as tie
 
 abbrev Inv-loop : tie.InvT-loop
 Inv-loop pixels from count others₀ i₀ others i = (i ≤ count) × (others ≡ allUnmixed pixels from i)

@@ -1,9 +1,9 @@
--- `pixels::cover::still_unmixed` meets its contract. Assumes nothing.
+-- `pixels::mixing::still_unmixed` meets its contract. Assumes nothing.
 use native.Mathlib.Omega.{arith}
 use mathlib.Core.Logic.{inl, inr}
 use Rattle.pixels.proofs.Unmixed.{mixed-more, unmixed-more}
-use Rattle.pixels.proofs.cover.still_unmixed.Statement.{statement}
-use Rattle.pixels.proofs.cover.still_unmixed.Tie as tie
+use Rattle.pixels.proofs.mixing.still_unmixed.Statement.{statement}
+use Rattle.pixels.proofs.mixing.still_unmixed.Tie as tie
 
 returns : tie.Need-returns
 returns c = mixed-more (c .before .before .before .before .args .p) (c .before .before .before .before .args .others) (λ e. omega arith) (λ e. omega arith)
