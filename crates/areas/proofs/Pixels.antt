@@ -3,10 +3,10 @@ use mathlib.Core.Path.{_≡_}
 use mathlib.Core.List.{List}
 use mathlib.Core.Bool.{Bool}
 use Prim.Native.Nat.{ℕ, _+_, _-_, _*_, _≤_, _<_, min}
-use native.Mathlib.Nat.{mul-le-mul}
 use native.Mathlib.Omega.{arith}
 use borrow.Author.Tests.{lt-ltb, le-ltb}
 use Rattle.numbers.specs.Numbers.{limit}
+use Rattle.numbers.proofs.Sides.{area}
 use Rattle.colour.specs.Choice.{if_then_else_}
 use Rattle.dots.specs.Dots.{dotAt, change, within, drawn}
 use Rattle.dots.proofs.Laws.{change-idle, change-same, Place, before, inside, past, place, within-yes, within-low, within-high}
@@ -35,4 +35,4 @@ row-given multiply pixels n from at w l {count} e = change-same _ _ _ _ l (λ k 
 
 -- the number of a row's first pixel fits a usize
 pub pixel-fits : {j h stride : ℕ} → j < h → stride ≤ limit → h ≤ limit → j * stride ≤ 268435456
-pixel-fits t a b = mul-le-mul {n₂ = limit} {m₂ = limit} (omega arith) a
+pixel-fits t a b = area (omega arith) a

@@ -17,7 +17,7 @@ use Rattle.colour.specs.declared.RGBA.{RGBA}
 use Rattle.colour.proofs.Laws.{blended-none, blended-full}
 use Rattle.dots.specs.Dots.{tab, dotAt, setDot, change, within}
 use Rattle.dots.proofs.Laws.{below, getD-tab, change-idle, change-by, run-none, run-turn, run-old}
-use Rattle.bits.specs.Bits.{landed, pixelLanded}
+use Rattle.bits.specs.Bits.{landed, alphaLanded}
 use Rattle.bits.specs.Steps.{byteOn, bitOn}
 
 masked : (b q : ℕ) → bitAnd b (2 ^ q) ≡ b / 2 ^ q % 2 * 2 ^ q
@@ -58,7 +58,7 @@ off-put c d e f = rw (e, f)
 
 -- ---- the dots of a stretched bit
 
-pub bit-left : (bit : ℕ) (blend : Bool) (c : RGBA) (at n : ℕ) (l : List ℕ) → (blend && eqb bit 0) ≡ true → l ≡ bitOn (pixelLanded blend c) bit at n l
+pub bit-left : (bit : ℕ) (blend : Bool) (c : RGBA) (at n : ℕ) (l : List ℕ) → (blend && eqb bit 0) ≡ true → l ≡ bitOn (alphaLanded blend c) bit at n l
 unfolding bitOn
 bit-left bit true c at n l e =
     let z : bit ≡ 0 = eqb-true bit 0 e in
@@ -66,7 +66,7 @@ bit-left bit true c at n l e =
 bit-left bit false c at n l e = absurd (true≢false (sym e))
 
 pub bit-filled : (bit : ℕ) (blend : Bool) (c : RGBA) (at n : ℕ) (l : List ℕ) → bit < 2 → (blend && eqb bit 0) ≡ false
-    → change (within at (at + n)) (λ _ _. withAlpha c (bit * 255)) l ≡ bitOn (pixelLanded blend c) bit at n l
+    → change (within at (at + n)) (λ _ _. withAlpha c (bit * 255)) l ≡ bitOn (alphaLanded blend c) bit at n l
 unfolding bitOn landed
 bit-filled bit true c at n l h e =
     let o : bit ≡ 1 = is-one h (eqb-false bit 0 e) in
@@ -81,16 +81,16 @@ alpha (lit e f) = rw (e, f)
 
 module _ (byte at : ℕ) (c : RGBA) (blend : Bool) (l : List ℕ) where
   abbrev g : ℕ → RGBA → RGBA
-  g i d = pixelLanded blend c (byte / 2 ^ (7 - (i - at)) % 2 * 255) d
+  g i d = alphaLanded blend c (byte / 2 ^ (7 - (i - at)) % 2 * 255) d
 
-  pub byte-start : l ≡ byteOn (pixelLanded blend c) byte at 0 l
+  pub byte-start : l ≡ byteOn (alphaLanded blend c) byte at 0 l
   unfolding byteOn
   byte-start = rw add-zero (run-none at g l)
 
   pub byte-next : {k : ℕ} {masks b m : List ℕ} {old d : RGBA} → k < 8 → (at + k) * 4 + 4 ≤ length l → masks ≡ tab 8 (λ k. 2 ^ (7 - k))
-      → b ≡ byteOn (pixelLanded blend c) byte at k l → old ≡ dotAt b (at + k)
+      → b ≡ byteOn (alphaLanded blend c) byte at k l → old ≡ dotAt b (at + k)
       → d ≡ landed blend (withAlpha c (if not (eqb (bitAnd byte (getD masks k 0)) 0) then 255 else 0)) old
-      → m ≡ setDot b (at + k) d → m ≡ byteOn (pixelLanded blend c) byte at (k + 1) l
+      → m ≡ setDot b (at + k) d → m ≡ byteOn (alphaLanded blend c) byte at (k + 1) l
   unfolding byteOn
   byte-next {k} {masks} {b} {m} {old} h r et eb eo ed em =
       let a : at + k - at ≡ k = omega arith in

@@ -35,8 +35,8 @@ unfoldable pub bitsOn : (ℕ → RGBA → RGBA) → List ℕ → ℕ → ℕ →
 bitsOn f bytes from fx at count l = change (within at (at + count)) (λ i d. f (bitAlpha bytes from ((i - at) / fx)) d) l
 
 -- the pixel of an alpha put, or blended onto a dot
-abbrev pub pixelLanded : Bool → RGBA → ℕ → RGBA → RGBA
-pixelLanded blend c alpha d = landed blend (withAlpha c alpha) d
+abbrev pub alphaLanded : Bool → RGBA → ℕ → RGBA → RGBA
+alphaLanded blend c alpha d = landed blend (withAlpha c alpha) d
 
 -- the pixel of an alpha drawn on a dot, blending or multiplying
 abbrev pub alphaDrawn : Bool → RGBA → ℕ → RGBA → RGBA

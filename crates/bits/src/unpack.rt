@@ -8,7 +8,7 @@ ghost use Rattle.numbers.specs.Numbers.{limit};
 ghost use Rattle.colour.specs.Choice.{if_then_else_};
 ghost use Rattle.colour.specs.Colour.{withAlpha};
 ghost use Rattle.dots.specs.Dots.{tab};
-ghost use Rattle.bits.specs.Bits.{landed, Shown, bitsOn, pixelLanded};
+ghost use Rattle.bits.specs.Bits.{landed, Shown, bitsOn, alphaLanded};
 ghost use Rattle.bits.specs.Steps.{byteOn, bitOn};
 use super::bit::bit_at;
 use super::bit::least;
@@ -43,7 +43,7 @@ fn unpack_some(
     blend: bool,
 )
     requires { ⌜ (n ≤ 8) × ((at + n) * 4 ≤ length (now out)) × (now masks ≡ tab 8 (λ k. 2 ^ (7 - k))) ⌝ }
-    ensures { λ _. ⌜ now (out .exit) ≡ byteOn (pixelLanded blend color) byte at n (now (out .entry)) ⌝ }
+    ensures { λ _. ⌜ now (out .exit) ≡ byteOn (alphaLanded blend color) byte at n (now (out .entry)) ⌝ }
 {
     let mut k = 0;
     while k < n {
@@ -65,7 +65,7 @@ fn unpack_eights(
     blend: bool,
 )
     requires { ⌜ ((at + count) * 4 ≤ length (now out)) × Shown from 1 count (length (now «data»)) ⌝ }
-    ensures { λ _. ⌜ now (out .exit) ≡ bitsOn (pixelLanded blend color) (now («data» .entry)) from 1 at count (now (out .entry)) ⌝ }
+    ensures { λ _. ⌜ now (out .exit) ≡ bitsOn (alphaLanded blend color) (now («data» .entry)) from 1 at count (now (out .entry)) ⌝ }
 {
     let masks = [128, 64, 32, 16, 8, 4, 2, 1];
     let mut i = 0;
@@ -89,7 +89,7 @@ fn leaves(bit: u8, blend: bool) -> bool
 // The n dots of a stretched bit. Where it is put the bit is a factor of the alpha, and not a test.
 fn unpack_bit(out: &mut [u8], at: usize, n: usize, bit: u8, color: RGBA, blend: bool)
     requires { ⌜ ((at + n) * 4 ≤ length (now out)) × (bit < 2) ⌝ }
-    ensures { λ _. ⌜ now (out .exit) ≡ bitOn (pixelLanded blend color) bit at n (now (out .entry)) ⌝ }
+    ensures { λ _. ⌜ now (out .exit) ≡ bitOn (alphaLanded blend color) bit at n (now (out .entry)) ⌝ }
 {
     if leaves(bit, blend) {
         return;
@@ -109,7 +109,7 @@ fn unpack_stretched(
     blend: bool,
 )
     requires { ⌜ ((at + count) * 4 ≤ length (now out)) × (0 < fx) × (count ≤ limit) × Shown from fx count (length (now «data»)) ⌝ }
-    ensures { λ _. ⌜ now (out .exit) ≡ bitsOn (pixelLanded blend color) (now («data» .entry)) from fx at count (now (out .entry)) ⌝ }
+    ensures { λ _. ⌜ now (out .exit) ≡ bitsOn (alphaLanded blend color) (now («data» .entry)) from fx at count (now (out .entry)) ⌝ }
 {
     let mut x = 0;
     let mut i = 0;
@@ -133,7 +133,7 @@ pub fn unpack_row(
     blend: bool,
 )
     requires { ⌜ ((at + count) * 4 ≤ length (now out)) × (0 < fx) × (count ≤ limit) × Shown from fx count (length (now «data»)) ⌝ }
-    ensures { λ _. ⌜ now (out .exit) ≡ bitsOn (pixelLanded blend color) (now («data» .entry)) from fx at count (now (out .entry)) ⌝ }
+    ensures { λ _. ⌜ now (out .exit) ≡ bitsOn (alphaLanded blend color) (now («data» .entry)) from fx at count (now (out .entry)) ⌝ }
 {
     if fx == 1 {
         unpack_eights(out, at, count, data, from, color, blend);

@@ -6,11 +6,12 @@ use native.Mathlib.Omega.{arith}
 use lib.Dec.{eqb}
 use borrow.Author.Tests.{eqb-true, eqb-false, eq-eqb, ne-eqb}
 use Rattle.numbers.specs.Numbers.{limit, done, noRoom, tooLarge, wrongLength, noLayers, layerSize}
+use Rattle.numbers.proofs.Sides.{area}
 use Rattle.colour.specs.Choice.{if_then_else_}
 use Rattle.images.specs.declared.formats.Format.{Format}
 use Rattle.images.specs.Formats.{bytesOf, rasterOf}
 use Rattle.images.specs.Stretching.{isLarge}
-use Rattle.images.proofs.Sides.{Small, small, area}
+use Rattle.images.proofs.Sides.{Small, small}
 use Rattle.graphics.specs.Decoding.{lacksRoom, refusal}
 use Rattle.graphics.specs.Layers.{layerBytes, outgrown, layersRefusal}
 

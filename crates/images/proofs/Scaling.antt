@@ -15,7 +15,7 @@ use Rattle.dots.proofs.Laws.{run-none, run-turn, run-more, length-change, chang
 use Rattle.dots.proofs.Blocks.{in-block, in-row}
 use Rattle.images.specs.declared.scale.Source.{Source}
 use Rattle.images.specs.declared.formats.Format.the-variants.{Bits}
-use Rattle.bits.specs.Bits.{rowBytes, Shown, bitsOn, pixelLanded}
+use Rattle.bits.specs.Bits.{rowBytes, Shown, bitsOn, alphaLanded}
 use Rattle.images.specs.Formats.{alphaOf, bytesOf}
 use Rattle.images.specs.Stretching.{pixelOf}
 use Rattle.bits.specs.Bits.{landed}
@@ -190,6 +190,6 @@ pub bits-shown : (s : Source) {n j row : ℕ} → Sound s n → j < s .h * s .fy
 bits-shown s o hj e er i h = omega (arith, bits-in-data s o hj e er, div-lt-iff-lt-mul (o .fx) .1 h)
 
 pub bits-is-row : (s : Source) (bytes : List ℕ) (blend : Bool) (at j : ℕ) (out : List ℕ) → s .format ≡ Bits → {row : ℕ} → row ≡ rowBytes (s .w)
-    → {m : List ℕ} → m ≡ bitsOn (pixelLanded blend (s .color)) bytes (j / s .fy * row) (s .fx) at (s .w * s .fx) out → m ≡ rowOn at (s .w * s .fx) blend (sourcePixel s bytes) j out
+    → {m : List ℕ} → m ≡ bitsOn (alphaLanded blend (s .color)) bytes (j / s .fy * row) (s .fx) at (s .w * s .fx) out → m ≡ rowOn at (s .w * s .fx) blend (sourcePixel s bytes) j out
 unfolding rowOn sourcePixel pixelOf alphaOf bitsOn
 bits-is-row s bytes blend at j out e er em = em ∙ rw (er, e)

@@ -2,7 +2,7 @@
 use mathlib.Core.Path.{_≡_, refl}
 use mathlib.Core.Bool.{Bool, true, false, _||_}
 use Prim.Native.Nat.{ℕ, _*_, _≤_, _<_}
-use native.Mathlib.Nat.{mul-le-mul, le-trans, le-mul-of-pos-right}
+use native.Mathlib.Nat.{le-trans, le-mul-of-pos-right}
 use native.Mathlib.Omega.{arith}
 use lib.Dec.{ltb, eqb}
 use borrow.Author.Tests.{ltb-false, eqb-false}
@@ -37,10 +37,6 @@ small w h fx fy e =
     let b = neither (ltb limit w || ltb limit h) (ltb limit (w * fx)) (a .0) in
     let c = neither (ltb limit w) (ltb limit h) (b .0) in
     record { width = ltb-false _ _ (c .0); height = ltb-false _ _ (c .1); wide = ltb-false _ _ (b .1); tall = ltb-false _ _ (a .1) }
-
--- a product of two sides
-pub area : {a b : ℕ} → a ≤ limit → b ≤ limit → a * b ≤ 268435456
-area ha hb = mul-le-mul ha hb
 
 -- the sides of a sound source
 pub sides : (s : Source) {n : ℕ} → Sound s n → (s .w ≤ limit) × (s .h ≤ limit)

@@ -2,7 +2,6 @@
 use mathlib.Core.Path.{_≡_, refl}
 use mathlib.Core.Bool.{Bool, true, false, _&&_, _||_}
 use Prim.Native.Nat.{ℕ, _+_, _*_, _/_, _≤_, _<_, max}
-use native.Mathlib.Nat.{mul-le-mul}
 use native.Mathlib.Omega.{arith}
 use lib.Dec.{ltb, eqb}
 use borrow.Author.Tests.{ltb-false, eqb-true, eqb-false, lt-ltb, le-ltb, lt-leb, eq-eqb, ne-eqb}
@@ -10,10 +9,6 @@ use Rattle.numbers.specs.Numbers.{limit, done, badCanvas}
 use Rattle.colour.specs.Choice.{if_then_else_}
 use Rattle.colour.proofs.Tests.{neither}
 use Rattle.refusals.specs.Refusals.{first, unsound, tallRefusal, wideRefusal, roomRefusal, rgbRoomRefusal, rowsOf, growRefusal, marginRefusal, widthRefusal, widenRefusal, outRefusal, rgbRefusal}
-
--- a product of two sides
-pub area : {a b : ℕ} → a ≤ limit → b ≤ limit → a * b ≤ 268435456
-area ha hb = mul-le-mul ha hb
 
 -- ---- one number after another
 

@@ -3,11 +3,12 @@ use Prim.Native.Nat.{ℕ, _+_, _*_, _-_, _≤_, _<_, max}
 use mathlib.Core.Path.{_≡_, refl, ap, sym, _∙_}
 use mathlib.Core.List.{List}
 use mathlib.Core.Bool.{Bool, true, false}
-use native.Mathlib.Nat.{mul-le-mul, mul-le-mul-left, mul-add, mul-comm}
+use native.Mathlib.Nat.{mul-le-mul-left, mul-add, mul-comm}
 use native.Mathlib.Omega.{arith}
 use borrow.Author.Tests.{eq-eqb, ne-eqb, ltb-false}
 use lib.ListN.{length}
 use Rattle.numbers.specs.Numbers.{limit, done, noRoom}
+use Rattle.numbers.proofs.Sides.{area}
 use Rattle.colour.specs.Choice.{if_then_else_}
 use Rattle.colour.specs.declared.RGBA.{RGBA}
 use Rattle.dots.specs.Dots.{change, within}
@@ -31,9 +32,6 @@ use Rattle.runs.specs.declared.survey.Survey.{Survey}
 use Rattle.runs.specs.Pictures.{shown}
 use Rattle.runs.specs.Run.{runRefusal, runPicture, runCanvas, refusedRun, ran, runOn}
 use Rattle.runs.specs.Steps.{surveyWith, leftOut, reached, seen, placedOn, obeyedOn, steppedOn, Room}
-
-pub dots-fit : (a b : ℕ) → a ≤ limit → b ≤ limit → a * b ≤ 268435456
-dots-fit a b h k = mul-le-mul h k
 
 -- ---- the survey
 
@@ -164,7 +162,7 @@ pub margin-asks : (W H m : ℕ) {n : ℕ} → Room W (H + m) n → (W * m + W * 
 margin-asks W H m r = omega (arith, r .room, mul-add W H m)
 
 pub margin-fits : (W H m : ℕ) {n : ℕ} → Room W (H + m) n → W * m ≤ 268435456
-margin-fits W H m r = dots-fit W m (r .wide) (omega (arith, r .tall))
+margin-fits W H m r = area {a = W} {b = m} (r .wide) (omega (arith, r .tall))
 
 pub flip-asks : (W H x y w h : ℕ) (paper : RGBA) (l : List ℕ) {b : List ℕ} → Room W (max H (y + h)) (length l) → x + w ≤ W → b ≡ papered W H (max H (y + h)) paper l → Fits W x y w h (length b)
 flip-asks W H x y w h paper l r a e = let p = place-asks W H y h paper l r e in record { some = r .some; across = a; down = p .room }

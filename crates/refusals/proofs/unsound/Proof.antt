@@ -1,8 +1,9 @@
 -- `refusals::unsound` meets its contract. Assumes nothing.
 use native.Mathlib.Omega.{arith}
 use borrow.Author.Tests.{lt-ltb, le-ltb}
+use Rattle.numbers.proofs.Sides.{area}
 use Rattle.refusals.specs.Refusals.{unsound}
-use Rattle.refusals.proofs.Codes.{area, unsound-flat, unsound-short, unsound-none}
+use Rattle.refusals.proofs.Codes.{unsound-flat, unsound-short, unsound-none}
 use borrow.Author.Needs.{needs}
 use Rattle.refusals.proofs.unsound.Statement.{statement}
 use Rattle.refusals.proofs.unsound.Tie as tie

@@ -3,14 +3,14 @@ use mathlib.Core.Path.{refl}
 use Prim.Native.Nat.{_-_}
 use native.Mathlib.Omega.{arith}
 use Rattle.dots.specs.Dots.{tab}
-use Rattle.bits.specs.Bits.{pixelLanded}
+use Rattle.bits.specs.Bits.{alphaLanded}
 use Rattle.bits.proofs.Rows.{Bits, byte-shown, bits-start, bits-next, bits-end}
 use borrow.Author.Needs.{needs}
 use Rattle.bits.proofs.unpack.unpack_eights.Statement.{statement}
 use Rattle.bits.proofs.unpack.unpack_eights.Tie as tie
 
 abbrev Inv-loop : tie.InvT-loop
-Inv-loop out₀ at count «data» from color blend masks i₀ out i = Bits (pixelLanded blend color) «data» from at count out₀ i out
+Inv-loop out₀ at count «data» from color blend masks i₀ out i = Bits (alphaLanded blend color) «data» from at count out₀ i out
 
 abbrev μ-loop : tie.MeasureT-loop
 μ-loop out₀ at count «data» from color blend masks i₀ out i = count - i

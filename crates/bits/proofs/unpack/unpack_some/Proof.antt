@@ -3,7 +3,7 @@ use mathlib.Core.Path.{_≡_, refl}
 use Prim.Native.Nat.{_-_, _≤_}
 use native.Mathlib.Omega.{arith}
 use lib.ListN.{length}
-use Rattle.bits.specs.Bits.{pixelLanded}
+use Rattle.bits.specs.Bits.{alphaLanded}
 use Rattle.bits.specs.Steps.{byteOn}
 use Rattle.bits.proofs.Unpacking.{byte-start, byte-next}
 use borrow.Author.Needs.{needs}
@@ -11,7 +11,7 @@ use Rattle.bits.proofs.unpack.unpack_some.Statement.{statement}
 use Rattle.bits.proofs.unpack.unpack_some.Tie as tie
 
 abbrev Inv-loop : tie.InvT-loop
-Inv-loop out₀ at byte n masks color blend k₀ out k = (k ≤ n) × (length out ≡ length out₀) × (out ≡ byteOn (pixelLanded blend color) byte at k out₀)
+Inv-loop out₀ at byte n masks color blend k₀ out k = (k ≤ n) × (length out ≡ length out₀) × (out ≡ byteOn (alphaLanded blend color) byte at k out₀)
 
 abbrev μ-loop : tie.MeasureT-loop
 μ-loop out₀ at byte n masks color blend k₀ out k = n - k

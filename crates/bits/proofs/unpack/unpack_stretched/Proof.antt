@@ -2,14 +2,14 @@
 use Prim.Native.Nat.{_-_}
 use native.Mathlib.Nat.{mod-lt}
 use native.Mathlib.Omega.{arith}
-use Rattle.bits.specs.Bits.{pixelLanded}
+use Rattle.bits.specs.Bits.{alphaLanded}
 use Rattle.bits.proofs.Stretching.{Stretch, stretch-start, stretch-shown, stretch-next, stretch-end}
 use borrow.Author.Needs.{needs}
 use Rattle.bits.proofs.unpack.unpack_stretched.Statement.{statement}
 use Rattle.bits.proofs.unpack.unpack_stretched.Tie as tie
 
 abbrev Inv-loop : tie.InvT-loop
-Inv-loop out₀ at count «data» from fx color blend x₀ i₀ out x i = Stretch (pixelLanded blend color) «data» from fx at count out₀ x i out
+Inv-loop out₀ at count «data» from fx color blend x₀ i₀ out x i = Stretch (alphaLanded blend color) «data» from fx at count out₀ x i out
 
 abbrev μ-loop : tie.MeasureT-loop
 μ-loop out₀ at count «data» from fx color blend x₀ i₀ out x i = count - i

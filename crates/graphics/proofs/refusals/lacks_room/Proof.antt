@@ -1,8 +1,8 @@
 -- `graphics::refusals::lacks_room` meets its contract. Assumes nothing.
 use mathlib.Core.Path.{refl}
 use native.Mathlib.Omega.{arith}
+use Rattle.numbers.proofs.Sides.{area}
 use Rattle.graphics.specs.Decoding.{lacksRoom}
-use Rattle.images.proofs.Sides.{area}
 use borrow.Author.Needs.{needs}
 use Rattle.graphics.proofs.refusals.lacks_room.Statement.{statement}
 use Rattle.graphics.proofs.refusals.lacks_room.Tie as tie

@@ -1,8 +1,8 @@
 -- `graphics::refusals::layer_bytes` meets its contract. Assumes nothing.
 use native.Mathlib.Omega.{arith}
 use Prim.Native.Nat.{_/_}
+use Rattle.numbers.proofs.Sides.{area}
 use Rattle.graphics.specs.Layers.{layerBytes}
-use Rattle.images.proofs.Sides.{area}
 use Rattle.graphics.proofs.refusals.layer_bytes.Statement.{statement}
 use Rattle.graphics.proofs.refusals.layer_bytes.Tie as tie
 

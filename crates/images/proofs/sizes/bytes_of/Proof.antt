@@ -1,8 +1,8 @@
 -- `images::sizes::bytes_of` meets its contract. Assumes nothing.
 use native.Mathlib.Omega.{arith}
+use Rattle.numbers.proofs.Sides.{area}
 use Rattle.bits.specs.Bits.{rowBytes}
 use Rattle.images.specs.Formats.{bytesOf}
-use Rattle.images.proofs.Sides.{area}
 use borrow.Author.Needs.{needs}
 use Rattle.images.proofs.sizes.bytes_of.Statement.{statement}
 use Rattle.images.proofs.sizes.bytes_of.Tie as tie

@@ -2,7 +2,8 @@
 use mathlib.Core.List.{[]}
 use native.Mathlib.Omega.{arith}
 use native.Mathlib.Nat.{mul-le-mul-left}
-use Rattle.runs.proofs.Answers.{dots-fit, grow-none, grow-asks, grow-some}
+use Rattle.numbers.proofs.Sides.{area}
+use Rattle.runs.proofs.Answers.{grow-none, grow-asks, grow-some}
 use borrow.Author.Needs.{needs}
 use Rattle.runs.proofs.draw.grow.Statement.{statement}
 use Rattle.runs.proofs.draw.grow.Tie as tie
@@ -11,10 +12,10 @@ returns : tie.Need-returns
 returns c = grow-none _ _ _ _ _ (c .if1 .taken)
 
 mul-at : tie.Need-mul-at
-mul-at c = let r = c .before .before .pre in omega (arith, dots-fit (c .before .before .args .width) (c .before .before .args .height) (r .wide) (omega (arith, r .tall)))
+mul-at c = let r = c .before .before .pre in omega (arith, area {a = c .before .before .args .width} {b = c .before .before .args .height} (r .wide) (omega (arith, r .tall)))
 
 mul-fill-run : tie.Need-mul-fill-run
-mul-fill-run c = let r = c .before .before .before .pre in omega (arith, dots-fit (c .before .before .before .args .width) (c .before .before .before .args .end) (r .wide) (omega (arith, r .tall)))
+mul-fill-run c = let r = c .before .before .before .pre in omega (arith, area {a = c .before .before .before .args .width} {b = c .before .before .before .args .end} (r .wide) (omega (arith, r .tall)))
 
 sub-fill-run : tie.Need-sub-fill-run
 sub-fill-run c = let h = c .before .if1 .left in omega (arith, mul-le-mul-left (c .before .before .before .args .width) h)

@@ -2,8 +2,9 @@
 use mathlib.Core.Path.{refl}
 use mathlib.Core.List.{[]}
 use native.Mathlib.Omega.{arith}
+use Rattle.numbers.proofs.Sides.{area}
 use Rattle.job.proofs.Reasons.{rectangle-kept, stretched-kept, mirrored-kept}
-use Rattle.runs.proofs.Answers.{dots-fit, step-out, step-in, rectangle-obeyed, image-obeyed, margin-obeyed, flip-obeyed, kept-of, rectangle-asks, image-asks, margin-room, flip-room, margin-asks, margin-fits, flip-asks}
+use Rattle.runs.proofs.Answers.{step-out, step-in, rectangle-obeyed, image-obeyed, margin-obeyed, flip-obeyed, kept-of, rectangle-asks, image-asks, margin-room, flip-room, margin-asks, margin-fits, flip-asks}
 use borrow.Author.Needs.{needs}
 use Rattle.runs.proofs.draw.obey.Statement.{statement}
 use Rattle.runs.proofs.draw.obey.Tie as tie
@@ -36,7 +37,7 @@ enum-known-c-3 : tie.Need-enum-known-c-3
 enum-known-c-3 c = search needs
 
 mul-move-down : tie.Need-mul-move-down
-mul-move-down c = omega (arith, dots-fit (c .before .before .before .before .before .before .before .before .args .width) (c .before .before .before .before .before .before .before .before .args .height) (c .before .before .before .before .before .before .before .before .pre .0 .wide) (c .before .before .before .before .before .before .before .before .pre .1))
+mul-move-down c = omega (arith, area {a = c .before .before .before .before .before .before .before .before .args .width} {b = c .before .before .before .before .before .before .before .before .args .height} (c .before .before .before .before .before .before .before .before .pre .0 .wide) (c .before .before .before .before .before .before .before .before .pre .1))
 
 cast-move-down : tie.Need-cast-move-down
 cast-move-down c = search needs

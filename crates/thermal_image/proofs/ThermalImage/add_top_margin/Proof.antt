@@ -5,8 +5,9 @@ use native.Mathlib.Nat.{mul-add}
 use native.Mathlib.Omega.{arith}
 use lib.ListN.{length}
 use denote.Ref.{now}
+use Rattle.numbers.proofs.Sides.{area}
 use Rattle.thermal_image.specs.Canvas.{lowered, lowerOn}
-use Rattle.refusals.proofs.Codes.{area, Fits, margin-done}
+use Rattle.refusals.proofs.Codes.{Fits, margin-done}
 use Rattle.thermal_image.proofs.Answers.{refused, did, kept, changed}
 use borrow.Author.Needs.{needs}
 use Rattle.thermal_image.proofs.ThermalImage.add_top_margin.Statement.{statement}

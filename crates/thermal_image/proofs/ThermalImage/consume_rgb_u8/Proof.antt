@@ -4,8 +4,9 @@ use Prim.Native.Nat.{_*_, _≤_}
 use native.Mathlib.Omega.{arith}
 use lib.ListN.{length}
 use denote.Ref.{now}
+use Rattle.numbers.proofs.Sides.{area}
 use Rattle.thermal_image.specs.Canvas.{rgb, rgbOn}
-use Rattle.refusals.proofs.Codes.{area, Sound, rgb-done}
+use Rattle.refusals.proofs.Codes.{Sound, rgb-done}
 use Rattle.thermal_image.proofs.Answers.{kept, changed, rgb-refused, rgb-did}
 use borrow.Author.Needs.{needs}
 use Rattle.thermal_image.proofs.ThermalImage.consume_rgb_u8.Statement.{statement}

@@ -4,8 +4,9 @@ use Prim.Native.Nat.{_*_, _≤_}
 use native.Mathlib.Omega.{arith}
 use lib.ListN.{length}
 use denote.Ref.{now}
+use Rattle.numbers.proofs.Sides.{area}
 use Rattle.thermal_image.specs.Canvas.{copied, copyOn}
-use Rattle.refusals.proofs.Codes.{area, Sound, out-done}
+use Rattle.refusals.proofs.Codes.{Sound, out-done}
 use Rattle.thermal_image.proofs.Answers.{kept, changed, copy-refused, copy-did}
 use borrow.Author.Needs.{needs}
 use Rattle.thermal_image.proofs.ThermalImage.copy.Statement.{statement}

@@ -4,8 +4,9 @@ use Prim.Native.Nat.{_≤_}
 use native.Mathlib.Omega.{arith}
 use lib.ListN.{length}
 use denote.Ref.{now}
+use Rattle.numbers.proofs.Sides.{area}
 use Rattle.thermal_image.specs.Canvas.{grown, grownOn}
-use Rattle.refusals.proofs.Codes.{area, Fits, grow-done}
+use Rattle.refusals.proofs.Codes.{Fits, grow-done}
 use Rattle.thermal_image.proofs.Answers.{refused, did, kept, changed, more-rows, papered-run}
 use borrow.Author.Needs.{needs}
 use Rattle.thermal_image.proofs.ThermalImage.expand_to_height.Statement.{statement}
