@@ -6,7 +6,6 @@ use Rattle.dots.proofs.dot.load_dot.Reads as load-dot
 use Rattle.dots.proofs.dot.set_dot.Reads as set-dot
 use Rattle.dots.proofs.dot.store_dot.Reads as store-dot
 use Rattle.dots.proofs.fill.fill_run.Reads as fill-run
-use Rattle.dots.proofs.draw.draw_dot.Reads as draw-dot
 use Rattle.dots.proofs.draw.draw_run.Reads as draw-run
 use Rattle.dots.proofs.draw.needs_tables.Reads as needs-tables
 use Rattle.dots.proofs.draw.covers.Reads as covers
@@ -14,6 +13,7 @@ use Rattle.dots.proofs.mix.mix_byte.Reads as mix-byte
 use Rattle.dots.proofs.mix.mix_factors.Reads as mix-factors
 use Rattle.dots.proofs.mix.mix_terms.Reads as mix-terms
 use Rattle.dots.proofs.mix.mix_run.Reads as mix-run
+use Rattle.dots.proofs.multiply.scale_byte.Reads as scale-byte
 use Rattle.dots.proofs.multiply.multiply_table.Reads as multiply-table
 use Rattle.dots.proofs.multiply.multiply_run.Reads as multiply-run
 
@@ -31,9 +31,6 @@ store-dot-one k a x y e f p q = both p q
 
 fill-run-one : OneContent fill-run.Post (λ k e. now (e .0))
 fill-run-one k a x y e f p q = both p q
-
-draw-dot-one : OneAnswer draw-dot.Post
-draw-dot-one k a x y e f p q = both p q
 
 draw-run-one : OneContent draw-run.Post (λ k e. now (e .0))
 draw-run-one k a x y e f p q = both p q
@@ -55,6 +52,9 @@ mix-terms-one k a x y e f p q = both p q
 
 mix-run-one : OneContent mix-run.Post (λ k e. now (e .0))
 mix-run-one k a x y e f p q = both p q
+
+scale-byte-one : OneAnswer scale-byte.Post
+scale-byte-one k a x y e f p q = both p q
 
 multiply-table-one : OneAnswer multiply-table.Post
 multiply-table-one k a x y e f p q = both p q

@@ -16,7 +16,7 @@ use super::multiply::multiply_run;
 use super::multiply::multiply_table;
 use colour::RGBA;
 
-pub fn draw_dot(s: RGBA, multiply: bool, c: RGBA) -> RGBA
+fn draw_dot(s: RGBA, multiply: bool, c: RGBA) -> RGBA
     ensures { λ r. ⌜ r ≡ drawn multiply c s ⌝ }
 {
     if multiply {

@@ -15,7 +15,7 @@ use super::dot::set_dot;
 use colour::RGBA;
 
 // The whole number nearest s * f / 65025.
-fn scale_byte(s: u8, f: u32) -> u8
+pub fn scale_byte(s: u8, f: u32) -> u8
     requires { ⌜ f ≤ 65025 ⌝ }
     ensures { λ r. ⌜ r ≡ nearest (s * f) 65025 ⌝ }
 {

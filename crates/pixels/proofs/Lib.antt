@@ -1,4 +1,5 @@
 mod Unmixed
 mod Runs
-mod Blended
+mod Spread
+mod ByteWise
 mod Unique

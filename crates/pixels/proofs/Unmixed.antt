@@ -2,8 +2,9 @@
 use mathlib.Core.Path.{_≡_, refl, sym, _∙_}
 use mathlib.Core.Logic.{_⊎_, inl, inr, ⊎-elim}
 use mathlib.Core.List.{List}
-use mathlib.Core.Bool.{Bool, true, false, _&&_, and-true, and-false, or-true, or-false, true≢false}
-use Prim.Native.Nat.{ℕ, suc, _+_, _<_}
+use mathlib.Core.Bool.{Bool, true, false, _&&_, and-true, and-false, and-assoc, not, or-true, or-false, true≢false}
+use Prim.Native.Nat.{ℕ, zero, suc, _+_, _-_, _≤_, _<_}
+use native.Mathlib.Nat.{add-assoc, add-suc, add-zero}
 use native.Mathlib.Numerals.{add-one}
 use native.Mathlib.Omega.{arith}
 use borrow.Author.Tests.{eq-eqb, ne-eqb, eqb-true}
@@ -24,10 +25,9 @@ module _ (p : RGBA) where
   unmixed-more t (inl e) = rw (eq-eqb (p .a) 0 e, and-true)
   unmixed-more t (inr e) = rw (eq-eqb (p .a) 255 e, or-true, and-true)
 
-  pub unmixed-leaves : {t : Bool} (s : RGBA) → (t ≡ true) ⊎ (unmixed p ≡ true) → t ≡ false → (p .a ≡ 255 → ⊥) → s ≡ drawn t p s
+  pub unmixed-leaves : (s : RGBA) → unmixed p ≡ true → (p .a ≡ 255 → ⊥) → s ≡ drawn false p s
   unfolding unmixed
-  unmixed-leaves s (inl e) f n = absurd (true≢false (sym e ∙ f))
-  unmixed-leaves {t} s (inr e) f n = drawn-none t p s (eqb-true (p .a) 0 (rw (ne-eqb (p .a) 255 n, or-false) at e))
+  unmixed-leaves s e n = drawn-none false p s (eqb-true (p .a) 0 (rw (ne-eqb (p .a) 255 n, or-false) at e))
 
 -- ---- all of count pixels
 
@@ -45,3 +45,41 @@ module _ (pixels : List ℕ) (from : ℕ) where
   all-unmixed-at (suc n) k h e =
       let t = and-both _ _ e in
       ⊎-elim (λ w. all-unmixed-at n k w (t .0)) (λ w. let q : k ≡ n = omega arith in rw q (t .1)) (below k n)
+
+  -- those of i pixels, and then those of n more
+  all-unmixed-then : (i n : ℕ) → allUnmixed pixels from (i + n) ≡ (allUnmixed pixels from i && allUnmixed pixels (from + i) n)
+  unfolding allUnmixed
+  all-unmixed-then i zero = rw (add-zero i, and-true)
+  all-unmixed-then i (suc n) = rw (add-suc i n, all-unmixed-then i n, and-assoc, add-assoc from i n)
+
+  pub all-unmixed-part : (i n count : ℕ) → i + n ≤ count → allUnmixed pixels from count ≡ true → allUnmixed pixels (from + i) n ≡ true
+  all-unmixed-part i n count h e =
+      let more : count ≡ i + n + (count - (i + n)) = omega arith in
+      let all = and-both (allUnmixed pixels from (i + n)) _ (sym (all-unmixed-then (i + n) (count - (i + n))) ∙ rw more at e) in
+      and-both (allUnmixed pixels from i) _ (sym (all-unmixed-then i n) ∙ all .0) .1
+
+  -- n more were looked at: one of them has to be mixed, or none, and what the rest says
+  pub all-unmixed-stop : (i n count : ℕ) {t : Bool} → i + n ≤ count → not t ≡ true → t ≡ allUnmixed pixels (from + i) n → false ≡ allUnmixed pixels from count
+  all-unmixed-stop i n count {t} h e et = go t (allUnmixed pixels from count) e et refl
+    where
+      go : (t u : Bool) → not t ≡ true → t ≡ allUnmixed pixels (from + i) n → allUnmixed pixels from count ≡ u → false ≡ u
+      go true u e et f = absurd (true≢false (sym e))
+      go false true e et f = et ∙ all-unmixed-part i n count h f
+      go false false e et f = refl
+
+  pub all-unmixed-on : (i n : ℕ) {t : Bool} → true ≡ allUnmixed pixels from i → not t ≡ false → t ≡ allUnmixed pixels (from + i) n → true ≡ allUnmixed pixels from (i + n)
+  all-unmixed-on i n {t} e f et = go t f et
+    where
+      go : (t : Bool) → not t ≡ false → t ≡ allUnmixed pixels (from + i) n → true ≡ allUnmixed pixels from (i + n)
+      go true f et = sym (all-unmixed-then i n ∙ rw (← e, ← et))
+      go false f et = absurd (true≢false f)
+
+  pub all-unmixed-end : (i count : ℕ) {t : Bool} → i ≤ count → true ≡ allUnmixed pixels from i → t ≡ allUnmixed pixels (from + i) (count - i) → t ≡ allUnmixed pixels from count
+  all-unmixed-end i count h e et =
+      let more : i + (count - i) ≡ count = omega arith in
+      et ∙ rw more at (rw (← e) at (sym (all-unmixed-then i (count - i))))
+
+  -- n of them from the i-th on are multiplied at full alpha where all are
+  pub full-part : (i n count : ℕ) {t f : Bool} → i + n ≤ count → (f ≡ false) ⊎ ((t ≡ true) × (allUnmixed pixels from count ≡ true)) → (f ≡ false) ⊎ ((t ≡ true) × (allUnmixed pixels (from + i) n ≡ true))
+  full-part i n count h (inl e) = inl e
+  full-part i n count h (inr (e, a)) = inr (e, all-unmixed-part i n count h a)

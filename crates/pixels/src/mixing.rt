@@ -18,7 +18,7 @@ fn still_unmixed(others: bool, p: RGBA) -> bool
 
 // To the last pixel, also where one before it has to be mixed, so that the compiler makes vectors of
 // the loop.
-pub fn all_unmixed(pixels: &[u8], from: usize, count: usize) -> bool
+fn some_unmixed(pixels: &[u8], from: usize, count: usize) -> bool
     requires { ⌜ (from + count) * 4 ≤ length (now pixels) ⌝ }
     ensures { λ r. ⌜ r ≡ allUnmixed (now (pixels .entry)) from count ⌝ }
 {
@@ -30,4 +30,21 @@ pub fn all_unmixed(pixels: &[u8], from: usize, count: usize) -> bool
         i += 1;
     }
     others
+}
+
+// How many pixels are looked at before it is asked whether to go on.
+const SOME: usize = 32;
+
+pub fn all_unmixed(pixels: &[u8], from: usize, count: usize) -> bool
+    requires { ⌜ (from + count) * 4 ≤ length (now pixels) ⌝ }
+    ensures { λ r. ⌜ r ≡ allUnmixed (now (pixels .entry)) from count ⌝ }
+{
+    let mut i = 0;
+    while count - i >= SOME {
+        if !some_unmixed(pixels, from + i, SOME) {
+            return false;
+        }
+        i += SOME;
+    }
+    some_unmixed(pixels, from + i, count - i)
 }
