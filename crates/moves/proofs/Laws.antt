@@ -1,5 +1,5 @@
 -- Laws of whole pictures. Assumes nothing.
-use mathlib.Core.Path.{_≡_, refl, sym, ap, _∙_}
+use mathlib.Core.Path.{_≡_, sym, ap, _∙_}
 use mathlib.Core.List.{List}
 use Prim.Native.Nat.{ℕ, _+_, _-_, _*_, _/_, _%_, _≤_, _<_}
 use native.Mathlib.Nat.{mul-comm, mul-zero, mod-lt, div-add-mod'}
@@ -16,7 +16,7 @@ use Rattle.moves.specs.declared.turned.Turn.{Turn}
 use Rattle.moves.specs.Moves.{loweredOn, widenedAt, widenedOn, copiedTo, rgbTo, columnTo, rowTo, turnedWide, turnedTall, turnedOn}
 use Rattle.moves.proofs.Bytes.{length-over, over-picked, over-kept}
 use Rattle.moves.proofs.Rects.{factor}
-use Rattle.moves.proofs.Turns.{sides, column-out, row-out, column-back, row-back, in-picture, dot-at, writes}
+use Rattle.moves.proofs.Turns.{sides, column-out, row-out, column-back, row-back, in-picture, dot-room, dot-at}
 
 -- ---- lowered
 
@@ -125,7 +125,7 @@ module _ (by : Turn) (w h : ℕ) (src l : List ℕ) where
       let v = row-out by w h x y a b in
       change-picked _ _ l (r * turnedWide by w h + c)
       (within-yes 0 (w * h) _ (omega arith) (omega (arith, in-picture (turnedWide by w h) (turnedTall by w h) c r u v, sides by w h)))
-      (writes by w h refl u v room)
+      (dot-room (turnedWide by w h) (turnedTall by w h) u v (rw (sides by w h) room))
       ∙ sym (dot-at by w h src r u _)
       ∙ rw (column-back by w h x y a b, row-back by w h x y a b)
 

@@ -1,5 +1,5 @@
--- The three loops that turn a picture: down a column of a strip, across a strip, and over the strips. Each has a start, a next and an end.
--- Assumes nothing.
+-- The three loops that turn a picture by a quarter: down a column of a strip, across a strip, and over the strips. Each has a start, a next and an
+-- end, whatever the dots are. Assumes nothing.
 use mathlib.Core.Path.{_≡_, refl, ap, _∙_}
 use mathlib.Core.List.{List}
 use Prim.Native.Nat.{ℕ, _+_, _*_, _≤_, _<_}
@@ -9,49 +9,40 @@ use lib.ListN.{length}
 use Rattle.colour.specs.declared.RGBA.{RGBA}
 use Rattle.dots.specs.Dots.{dotAt, setDot, change, within}
 use Rattle.dots.proofs.Laws.{length-change, run-none, run-on}
-use Rattle.moves.specs.declared.turned.Turn.{Turn}
 use Rattle.moves.specs.Parts.{inRect}
-use Rattle.moves.specs.Moves.{turnedWide, turnedTall, columnFrom, rowFrom, turnedDot, turnedOn}
 use Rattle.moves.proofs.Rects.{column-none, column-next, strip-none, strip-next, strip-end}
-use Rattle.moves.proofs.Turns.{sides, dot-at, writes}
+use Rattle.moves.proofs.Turns.{dot-room}
 
-module _ (src : List ℕ) (w h : ℕ) (by : Turn) (l : List ℕ) where
-  abbrev wide : ℕ
-  wide = turnedWide by w h
-
-  abbrev tall : ℕ
-  tall = turnedTall by w h
-
-  abbrev dot : ℕ → RGBA → RGBA
-  dot = turnedDot by w h src
-
+module _ (wide tall : ℕ) (dot : ℕ → RGBA → RGBA) (l : List ℕ) where
   -- ---- down column c: its rows from r to k are written
 
-  pub record Down (c r rows v k : ℕ) (b : List ℕ) : Type 0 where
-    pub told : v ≡ wide
+  pub record Down (c r rows k : ℕ) (b : List ℕ) : Type 0 where
     pub above : r ≤ k
     pub upto : k ≤ r + rows
     pub same : length b ≡ length l
     pub sofar : b ≡ change (inRect wide c (c + 1) r k) dot l
 
-  pub down-start : (c r rows : ℕ) {v : ℕ} → v ≡ wide → Down c r rows v r l
-  down-start c r rows e = record { told = e; above = omega arith; upto = omega arith; same = refl; sofar = column-none wide dot l c r }
+  pub down-start : (c r rows : ℕ) → Down c r rows r l
+  down-start c r rows = record { above = omega arith; upto = omega arith; same = refl; sofar = column-none wide dot l c r }
 
-  pub down-next : (c r rows : ℕ) {v k x y : ℕ} {b m : List ℕ} {d : RGBA} → Down c r rows v k b → k < r + rows → c < wide → r + rows ≤ tall → w * h * 4 ≤ length l
-      → x ≡ columnFrom by w c k → y ≡ rowFrom by h c k → d ≡ dotAt src (y * w + x) → m ≡ setDot b (k * v + c) d → Down c r rows v (k + 1) m
-  down-next c r rows {v} {k} {b = b} {m = m} o u a t room ex ey ed em =
+  pub down-room : (c r rows : ℕ) {k : ℕ} {b : List ℕ} → Down c r rows k b → k < r + rows → c < wide → r + rows ≤ tall → tall * wide * 4 ≤ length l
+      → (k * wide + c) * 4 + 4 ≤ length b
+  down-room c r rows o u a t room = rw (o .same) (dot-room wide tall a (omega arith) room)
+
+  pub down-next : (c r rows : ℕ) {k : ℕ} {b m : List ℕ} {d : RGBA} → Down c r rows k b → k < r + rows → c < wide → r + rows ≤ tall → tall * wide * 4 ≤ length l
+      → d ≡ dot (k * wide + c) (dotAt l (k * wide + c)) → m ≡ setDot b (k * wide + c) d → Down c r rows (k + 1) m
+  down-next c r rows {k} {b} {m} o u a t room ed em =
       let next : m ≡ change (inRect wide c (c + 1) r (k + 1)) dot l =
-      column-next wide dot l c r k a (o .above) (writes by w h refl a (omega arith) room) (o .sofar) (ed ∙ rw (ex, ey) (dot-at by w h src k a _)) (em ∙ rw (o .told)) in
+      column-next wide dot l c r k a (o .above) (dot-room wide tall a (omega arith) room) (o .sofar) ed em in
       record {
-        told = o .told;
         above = omega (arith, o .above);
         upto = omega arith;
         same = ap length next ∙ length-change _ dot l;
         sofar = next;
       }
 
-  pub down-end : (c r rows : ℕ) {v k : ℕ} {b : List ℕ} → Down c r rows v k b → r + rows ≤ k → b ≡ change (inRect wide c (c + 1) r (r + rows)) dot l
-  down-end c r rows {k = k} o u = let e : k ≡ r + rows = omega (arith, o .upto) in rw e at (o .sofar)
+  pub down-end : (c r rows : ℕ) {k : ℕ} {b : List ℕ} → Down c r rows k b → r + rows ≤ k → b ≡ change (inRect wide c (c + 1) r (r + rows)) dot l
+  down-end c r rows {k} o u = let e : k ≡ r + rows = omega (arith, o .upto) in rw e at (o .sofar)
 
   -- ---- across rows r to r + rows: the first c columns are written
 
@@ -95,6 +86,5 @@ module _ (src : List ℕ) (w h : ℕ) (by : Turn) (l : List ℕ) where
             run-on 0 (r * wide) ((r + rows) * wide) dot l (omega arith) (mul-le-mul-right {m = r} {n = r + rows} wide (omega arith)) (o .sofar) em;
       }
 
-  pub strips-end : {r : ℕ} {b : List ℕ} → Strips r b → r ≡ tall → b ≡ turnedOn by w h src l
-  unfolding turnedOn
-  strips-end o e = o .sofar ∙ rw (e, sides by w h)
+  pub strips-end : {r : ℕ} {b : List ℕ} → Strips r b → r ≡ tall → b ≡ change (within 0 (tall * wide)) dot l
+  strips-end o e = rw e at (o .sofar)

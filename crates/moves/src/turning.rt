@@ -1,111 +1,101 @@
 // A picture turned by quarters, into a second buffer.
 ghost use mathlib.Core.Path.{_≡_};
-ghost use Prim.Native.Nat.{_+_, _*_, _≤_, _<_};
+ghost use Prim.Native.Nat.{_+_, _-_, _*_, _≤_, _<_};
 ghost use lib.ListN.{length};
-ghost use Rattle.dots.specs.Dots.{change, within};
-ghost use Rattle.moves.specs.Moves.{turnedWide, turnedTall, columnFrom, rowFrom, turnedDot, turnedOn};
-ghost use Rattle.moves.specs.Parts.{inRect};
+ghost use Rattle.dots.specs.Dots.{dotAt, change, within};
+ghost use Rattle.moves.specs.Moves.{turnedDot, turnedOn};
+ghost use Rattle.moves.specs.Parts.{inRect, along, quarter};
 use super::turned::Turn;
 use dots::get_dot;
+use dots::load_dot;
 use dots::set_dot;
+use dots::store_dot;
 
-fn turned_wide(by: Turn, w: usize, h: usize) -> usize
-    ensures { λ r. ⌜ r ≡ turnedWide by w h ⌝ }
+// n dots, the last first. By words, so that the compiler makes vectors of the loop.
+fn turn_half(src: &[u8], n: usize, out: &mut [u8])
+    requires { ⌜ (n * 4 ≤ length (now src)) × (n * 4 ≤ length (now out)) ⌝ }
+    ensures { λ _. ⌜ now (out .exit) ≡ change (within 0 n) (λ i _. dotAt (now (src .entry)) (n - 1 - i)) (now (out .entry)) ⌝ }
 {
-    match by {
-        Turn::Quarter => h,
-        Turn::Half => w,
-        Turn::ThreeQuarters => h,
+    let mut i = 0;
+    while i < n {
+        let from = n - 1 - i;
+        let d = load_dot(src, from);
+        store_dot(out, i, d);
+        i += 1;
     }
 }
 
-fn column_from(by: Turn, w: usize, h: usize, c: usize, r: usize) -> usize
-    requires { ⌜ (c < turnedWide by w h) × (r < turnedTall by w h) ⌝ }
-    ensures { λ x. ⌜ x ≡ columnFrom by w c r ⌝ }
+fn along(n: usize, i: usize, back: bool) -> usize
+    requires { ⌜ i < n ⌝ }
+    ensures { λ r. ⌜ r ≡ along n i back ⌝ }
 {
-    match by {
-        Turn::Quarter => r,
-        Turn::Half => w - 1 - c,
-        Turn::ThreeQuarters => w - 1 - r,
+    if back {
+        return n - 1 - i;
     }
+    i
 }
 
-fn row_from(by: Turn, w: usize, h: usize, c: usize, r: usize) -> usize
-    requires { ⌜ (c < turnedWide by w h) × (r < turnedTall by w h) ⌝ }
-    ensures { λ y. ⌜ y ≡ rowFrom by h c r ⌝ }
-{
-    match by {
-        Turn::Quarter => h - 1 - c,
-        Turn::Half => h - 1 - r,
-        Turn::ThreeQuarters => c,
-    }
-}
-
-// `rows` dots of column c, from row r on.
+// `rows` dots of column c, from row r on, of a quarter turn to the right or to the left: they stood
+// along one row of the source.
 fn turn_column(
     src: &[u8],
     w: usize,
     h: usize,
-    by: Turn,
+    left: bool,
     c: usize,
     r: usize,
     rows: usize,
     out: &mut [u8],
 )
-    requires { ⌜ (w * h * 4 ≤ length (now src)) × (w * h * 4 ≤ length (now out)) ⌝ }
-    requires { ⌜ (c < turnedWide by w h) × (r + rows ≤ turnedTall by w h) ⌝ }
-    ensures { λ _. ⌜ now (out .exit) ≡ change (inRect (turnedWide by w h) c (c + 1) r (r + rows)) (turnedDot by w h (now (src .entry))) (now (out .entry)) ⌝ }
+    requires { ⌜ (w * h * 4 ≤ length (now src)) × (w * h * 4 ≤ length (now out)) × (c < h) × (r + rows ≤ w) ⌝ }
+    ensures { λ _. ⌜ now (out .exit) ≡ change (inRect h c (c + 1) r (r + rows)) (turnedDot (quarter left) w h (now (src .entry))) (now (out .entry)) ⌝ }
 {
-    let wide = turned_wide(by, w, h);
+    let y = along(h, c, !left);
     let end = r + rows;
     let mut k = r;
     while k < end {
-        let x = column_from(by, w, h, c, k);
-        let y = row_from(by, w, h, c, k);
+        let x = along(w, k, left);
         let d = get_dot(src, y * w + x);
-        set_dot(out, k * wide + c, d);
+        set_dot(out, k * h + c, d);
         k += 1;
     }
 }
 
-// `rows` rows from row r on, column by column, so that the dots of one source row, which a quarter
-// turn puts into one column, are read together.
-fn turn_columns(src: &[u8], w: usize, h: usize, by: Turn, r: usize, rows: usize, out: &mut [u8])
-    requires { ⌜ (w * h * 4 ≤ length (now src)) × (w * h * 4 ≤ length (now out)) × (r + rows ≤ turnedTall by w h) ⌝ }
-    ensures { λ _. ⌜ now (out .exit) ≡ change (within (r * turnedWide by w h) ((r + rows) * turnedWide by w h)) (turnedDot by w h (now (src .entry))) (now (out .entry)) ⌝ }
+// `rows` rows from row r on, column by column, so that the dots of one source row are read together.
+fn turn_columns(src: &[u8], w: usize, h: usize, left: bool, r: usize, rows: usize, out: &mut [u8])
+    requires { ⌜ (w * h * 4 ≤ length (now src)) × (w * h * 4 ≤ length (now out)) × (r + rows ≤ w) ⌝ }
+    ensures { λ _. ⌜ now (out .exit) ≡ change (within (r * h) ((r + rows) * h)) (turnedDot (quarter left) w h (now (src .entry))) (now (out .entry)) ⌝ }
 {
-    let wide = turned_wide(by, w, h);
     let mut c = 0;
-    while c < wide {
-        turn_column(src, w, h, by, c, r, rows, out);
+    while c < h {
+        turn_column(src, w, h, left, c, r, rows, out);
         c += 1;
     }
 }
 
-// Each turn by itself, so that the compiler makes a loop for it that does not ask which it is.
-fn turn_strip(src: &[u8], w: usize, h: usize, by: Turn, r: usize, rows: usize, out: &mut [u8])
-    requires { ⌜ (w * h * 4 ≤ length (now src)) × (w * h * 4 ≤ length (now out)) × (r + rows ≤ turnedTall by w h) ⌝ }
-    ensures { λ _. ⌜ now (out .exit) ≡ change (within (r * turnedWide by w h) ((r + rows) * turnedWide by w h)) (turnedDot by w h (now (src .entry))) (now (out .entry)) ⌝ }
+// The rows of a strip.
+const STRIP: usize = 8;
+
+fn turn_quarter(src: &[u8], w: usize, h: usize, left: bool, out: &mut [u8])
+    requires { ⌜ (w * h * 4 ≤ length (now src)) × (w * h * 4 ≤ length (now out)) ⌝ }
+    ensures { λ _. ⌜ now (out .exit) ≡ turnedOn (quarter left) w h (now (src .entry)) (now (out .entry)) ⌝ }
 {
-    match by {
-        Turn::Quarter => turn_columns(src, w, h, Turn::Quarter, r, rows, out),
-        Turn::Half => turn_columns(src, w, h, Turn::Half, r, rows, out),
-        Turn::ThreeQuarters => turn_columns(src, w, h, Turn::ThreeQuarters, r, rows, out),
+    let mut r = 0;
+    while w - r >= STRIP {
+        turn_columns(src, w, h, left, r, STRIP, out);
+        r += STRIP;
     }
+    turn_columns(src, w, h, left, r, w - r, out);
 }
 
-// The rows of a strip.
-const STRIP: usize = 4;
-
+// Each quarter turn by itself, so that the compiler makes a loop for it that does not ask which it is.
 pub fn turn(src: &[u8], w: usize, h: usize, by: Turn, out: &mut [u8])
     requires { ⌜ (w * h * 4 ≤ length (now src)) × (w * h * 4 ≤ length (now out)) ⌝ }
     ensures { λ _. ⌜ now (out .exit) ≡ turnedOn by w h (now (src .entry)) (now (out .entry)) ⌝ }
 {
-    let tall = turned_wide(by, h, w);
-    let mut r = 0;
-    while tall - r >= STRIP {
-        turn_strip(src, w, h, by, r, STRIP, out);
-        r += STRIP;
+    match by {
+        Turn::Quarter => turn_quarter(src, w, h, false, out),
+        Turn::Half => turn_half(src, w * h, out),
+        Turn::ThreeQuarters => turn_quarter(src, w, h, true, out),
     }
-    turn_strip(src, w, h, by, r, tall - r, out);
 }

@@ -1,68 +1,72 @@
 -- `moves::turn` meets its contract. Assumes nothing.
+use mathlib.Core.Path.{_∙_}
 use borrow.Author.Needs.{needs}
-use Prim.Native.Nat.{_-_}
-use native.Mathlib.Omega.{arith}
-use Rattle.moves.proofs.Strips.{Strips, strips-start, strips-next, strips-end}
+use Rattle.moves.specs.Parts.{quarter}
+use Rattle.moves.proofs.Turns.{half-turned}
 use Rattle.moves.proofs.turning.turn.Statement.{statement}
 use Rattle.moves.proofs.turning.turn.Tie as tie
 
-abbrev Inv-loop : tie.InvT-loop
-Inv-loop src w h by out₀ tall r₀ out r = Strips src w h by out₀ r out
+enum-told : tie.Need-enum-told
+enum-told c = search needs
 
-abbrev μ-loop : tie.MeasureT-loop
-μ-loop src w h by out₀ tall r₀ out r = tall - r
+turn-quarter-requires : tie.Need-turn-quarter-requires
+turn-quarter-requires c κs = search needs
 
-turned-wide-requires : tie.Need-turned-wide-requires Inv-loop μ-loop
-turned-wide-requires c κs = search needs
+enum-told-2 : tie.Need-enum-told-2
+enum-told-2 c = search needs
 
-loop-holds : tie.Need-loop-holds Inv-loop μ-loop
-loop-holds c = strips-start _ _ _ _ _
+mul-turn-half : tie.Need-mul-turn-half
+mul-turn-half c = search needs
 
-sub-loop : tie.Need-sub-loop Inv-loop μ-loop
-sub-loop c = search needs
+turn-half-requires : tie.Need-turn-half-requires
+turn-half-requires c κs = search needs
 
-turn-strip-requires : tie.Need-turn-strip-requires Inv-loop μ-loop
-turn-strip-requires c κs = search needs
+enum-told-3 : tie.Need-enum-told-3
+enum-told-3 c = search needs
 
-add-r : tie.Need-add-r Inv-loop μ-loop
-add-r c = search needs
+turn-quarter-requires-2 : tie.Need-turn-quarter-requires-2
+turn-quarter-requires-2 c κs = search needs
 
-loop-less : tie.Need-loop-less Inv-loop μ-loop
-loop-less c = search needs
-
-loop-again : tie.Need-loop-again Inv-loop μ-loop
-loop-again c =
-    let t = c .before .before in
-    strips-next _ _ _ _ _ _ (t .before .before .before .loop .inv) (omega arith) (t .turn-strip .ensures)
-
-sub-turn-strip : tie.Need-sub-turn-strip Inv-loop μ-loop
-sub-turn-strip c = search needs
-
-turn-strip-requires-2 : tie.Need-turn-strip-requires-2 Inv-loop μ-loop
-turn-strip-requires-2 c κs = search needs
-
-same-length : tie.Need-same-length Inv-loop μ-loop
+same-length : tie.Need-same-length
 same-length c = search needs
 
-returns : tie.Need-returns Inv-loop μ-loop
+returns : tie.Need-returns
+unfolding quarter
 returns c =
     let t = c .before .before in
-    strips-end _ _ _ _ _ (strips-next _ _ _ _ _ _ (t .before .before .before .loop .inv) (omega arith) (t .turn-strip2 .ensures)) (omega arith)
+    rw (t .before .before .enum-told .given .1) (t .turn-quarter .ensures)
+
+same-length-2 : tie.Need-same-length-2
+same-length-2 c = search needs
+
+returns-2 : tie.Need-returns-2
+returns-2 c =
+    let t = c .before .before in
+    rw (t .before .before .enum-told2 .given .1) (t .turn-half .ensures ∙ half-turned _ _ _ _)
+
+same-length-3 : tie.Need-same-length-3
+same-length-3 c = search needs
+
+returns-3 : tie.Need-returns-3
+unfolding quarter
+returns-3 c =
+    let t = c .before .before in
+    rw (t .before .before .enum-told3 .given .1) (t .turn-quarter2 .ensures)
 
 pub turn-spec : {M : Type 1} → statement M
 turn-spec =
     tie.close
     (tie.spec
-    Inv-loop
-    μ-loop
-    turned-wide-requires
-    loop-holds
-    sub-loop
-    turn-strip-requires
-    add-r
-    loop-less
-    loop-again
-    sub-turn-strip
-    turn-strip-requires-2
+    enum-told
+    turn-quarter-requires
+    enum-told-2
+    mul-turn-half
+    turn-half-requires
+    enum-told-3
+    turn-quarter-requires-2
     same-length
-    returns)
+    returns
+    same-length-2
+    returns-2
+    same-length-3
+    returns-3)

@@ -1,57 +1,53 @@
--- `moves::turn_column` meets its contract. Assumes nothing.
+-- `moves::turning::turn_column` meets its contract. Assumes nothing.
+use mathlib.Core.Path.{_∙_}
 use borrow.Author.Needs.{needs}
 use Prim.Native.Nat.{_+_, _-_, _*_, _≤_}
 use native.Mathlib.Omega.{arith}
 use lib.ListN.{length}
 use denote.Ref.{now}
-use Rattle.moves.proofs.Turns.{reads as picture-reads, writes, tall-in}
-use Rattle.moves.proofs.Strips.{Down, down-start, down-next, down-end}
+use Rattle.moves.specs.Moves.{turnedDot}
+use Rattle.moves.specs.Parts.{quarter}
+use Rattle.moves.proofs.Turns.{along-reads, quarter-dot}
+use Rattle.moves.proofs.Strips.{Down, down-start, down-room, down-next, down-end}
 use Rattle.moves.proofs.turning.turn_column.Statement.{statement}
 use Rattle.moves.proofs.turning.turn_column.Tie as tie
 
 abbrev Inv-loop : tie.InvT-loop
-Inv-loop src w h by c r rows out₀ wide end k₀ out k = Down src w h by out₀ c r rows wide k out
+Inv-loop src w h left c r rows out₀ y end k₀ out k = Down h w (turnedDot (quarter left) w h src) out₀ c r rows k out
 
 abbrev μ-loop : tie.MeasureT-loop
-μ-loop src w h by c r rows out₀ wide end k₀ out k = r + rows - k
+μ-loop src w h left c r rows out₀ y end k₀ out k = end - k
 
 -- the dot lies in the source, and its place in the output
-read-room : (c : tie.After-row-from Inv-loop μ-loop)
-    → let a = c .before .before .before .before .before .before .before .args in
-    (c .row-from .result * a .w + c .before .column-from .result) * 4 + 4 ≤ length (now (a .src))
+read-room : (c : tie.After-along2 Inv-loop μ-loop)
+    → let l = c .before .before in
+    let a = l .before .before .before .before .args in
+    (l .before .along .result * a .w + c .along2 .result) * 4 + 4 ≤ length (now (a .src))
 read-room c =
-    let n = c .before .before in
-    let b = n .before .before .before .before .before in
-    picture-reads _ _ _ (b .pre .1 .0) (omega (arith, b .pre .1 .1)) (c .before .column-from .ensures) (c .row-from .ensures) (b .pre .0 .0)
+    let l = c .before .before in
+    let p = l .before .before .before .before .pre in
+    along-reads _ _ _ _ _ _ (p .2) (omega (arith, p .3)) (c .along2 .ensures) (l .before .along .ensures) (p .0)
 
 write-room : (c : tie.After-set-dot-arg Inv-loop μ-loop)
-    → let l = c .before .before .before .before .before in
-    (l .loop .k * l .before .turned-wide .result + l .before .before .before .before .args .c) * 4 + 4 ≤ length (l .loop .out)
+    → let l = c .before .before .before .before in
+    let a = l .before .before .before .before .args in
+    (l .loop .k * a .h + a .c) * 4 + 4 ≤ length (l .loop .out)
 write-room c =
-    let l = c .before .before .before .before .before in
-    let b = l .before .before .before .before in
-    writes _ _ _ (l .loop .inv .told) (b .pre .1 .0) (omega (arith, b .pre .1 .1)) (omega (arith, b .pre .0 .1, l .loop .inv .same))
+    let l = c .before .before .before .before in
+    let p = l .before .before .before .before .pre in
+    down-room _ _ _ _ _ _ _ (l .loop .inv) (c .before .before .before .loop-test .taken) (p .2) (p .3) (p .1)
 
-turned-wide-requires : tie.Need-turned-wide-requires Inv-loop μ-loop
-turned-wide-requires c κs = search needs
+along-requires : tie.Need-along-requires Inv-loop μ-loop
+along-requires c κs = search needs
 
 add-end : tie.Need-add-end Inv-loop μ-loop
-add-end c =
-    let b = c .before .before .before in
-    omega (arith, tall-in _ _ _ (b .pre .1 .0), b .pre)
+add-end c = search needs
 
 loop-holds : tie.Need-loop-holds Inv-loop μ-loop
-loop-holds c = down-start _ _ _ _ _ _ _ _ (c .turned-wide .ensures)
+loop-holds c = down-start _ _ _ _ _ _ _
 
-column-from-requires : tie.Need-column-from-requires Inv-loop μ-loop
-column-from-requires c κs =
-    let b = c .before .before .before .before .before in
-    (b .pre .1 .0, omega (arith, b .pre .1 .1))
-
-row-from-requires : tie.Need-row-from-requires Inv-loop μ-loop
-row-from-requires c κs =
-    let b = c .before .before .before .before .before .before in
-    (b .pre .1 .0, omega (arith, b .pre .1 .1))
+along-requires-2 : tie.Need-along-requires-2 Inv-loop μ-loop
+along-requires-2 c κs = search needs
 
 mul-get-dot : tie.Need-mul-get-dot Inv-loop μ-loop
 mul-get-dot c = omega (arith, read-room c)
@@ -72,9 +68,7 @@ set-dot-requires : tie.Need-set-dot-requires Inv-loop μ-loop
 set-dot-requires c κs = omega (arith, write-room c)
 
 add-k : tie.Need-add-k Inv-loop μ-loop
-add-k c =
-    let b = c .before .before .before .before .before .before .before .before .before .before .before .before in
-    omega (arith, tall-in _ _ _ (b .pre .1 .0), b .pre)
+add-k c = search needs
 
 loop-less : tie.Need-loop-less Inv-loop μ-loop
 loop-less c = search needs
@@ -83,16 +77,17 @@ loop-again : tie.Need-loop-again Inv-loop μ-loop
 loop-again c =
     let s = c .before .before in
     let g = s .before .before in
-    let y = g .before in
-    let l = y .before .before .before in
-    let b = l .before .before .before .before in
-    down-next _ _ _ _ _ _ _ _ (l .loop .inv) (y .before .before .loop-test .taken) (b .pre .1 .0) (b .pre .1 .1) (b .pre .0 .1) (y .before .column-from .ensures) (y .row-from .ensures) (g .get-dot .ensures) (s .set-dot .ensures)
+    let x = g .before in
+    let l = x .before .before in
+    let p = l .before .before .before .before .pre in
+    down-next _ _ _ _ _ _ _ (l .loop .inv) (x .before .loop-test .taken) (p .2) (p .3) (p .1)
+    (g .get-dot .ensures ∙ quarter-dot _ _ _ _ _ _ (p .2) (x .along2 .ensures) (l .before .along .ensures) _) (s .set-dot .ensures)
 
 same-length : tie.Need-same-length Inv-loop μ-loop
 same-length c = search needs
 
 returns : tie.Need-returns Inv-loop μ-loop
-returns c = down-end _ _ _ _ _ _ _ _ (c .before .loop .inv) (c .loop-test .left)
+returns c = down-end _ _ _ _ _ _ _ (c .before .loop .inv) (c .loop-test .left)
 
 pub turn-column-spec : {M : Type 1} → statement M
 turn-column-spec =
@@ -100,11 +95,10 @@ turn-column-spec =
     (tie.spec
     Inv-loop
     μ-loop
-    turned-wide-requires
+    along-requires
     add-end
     loop-holds
-    column-from-requires
-    row-from-requires
+    along-requires-2
     mul-get-dot
     add-get-dot
     get-dot-requires
