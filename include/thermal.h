@@ -73,7 +73,7 @@ typedef struct thermal_render_colors {
     thermal_rgba color_3;
 } thermal_render_colors;
 
-/* A canvas but for its dots. With `auto_grow` what is put below the last row adds rows. */
+/* A canvas but for its dots. Without `auto_grow` what begins below the last row cannot be put. */
 typedef struct thermal_image {
     uint32_t width;
     uint32_t height;
@@ -300,13 +300,14 @@ thermal_answer thermal_rotate_270(thermal_image image, const uint8_t *buf, size_
                                   uint8_t *out, size_t out_length);
 
 /*
- * Drawing on the canvas. What does not fit is cropped: at the right always, at the bottom if growth
- * is off. The canvas becomes as tall as what is put asks for, also where no dot is drawn; new rows
- * are paper.
+ * Drawing on the canvas. What is put is cropped where x + w is above the width, or growth is off and
+ * y + w (its width, as in the Rust) is above the height: then to the canvas's width and, with growth
+ * off, to its height. The canvas becomes as tall as what is put asks for, also where no dot is drawn
+ * and where growth is off; new rows are paper.
  */
 
 /* Answers the canvas with `pixels` put on it as an image w wide and h tall at (x, y). Fewer pixels
- * than w*h are accepted where nothing is cropped, and only these are drawn.
+ * than w*h are accepted where it is not cropped, and only these are drawn.
  * Writes when done: the new rows, then the dots of the image, blended or, with `multiply`,
  * multiplied. `pixels` is only read. Numbers: 9, 3, 2, 6, 5, 7, 8, 1. */
 thermal_answer thermal_put_pixels(thermal_image image, uint32_t x, uint32_t y, uint32_t w,
@@ -338,7 +339,7 @@ thermal_answer thermal_flip_pixels(thermal_image image, uint32_t x, uint32_t y, 
 
 /* Answers the number alone. `buf` holds any picture w wide and h tall.
  * Writes its edges when done: top, bottom, left and right are blended with the colour one after the
- * other, so that a corner is blended twice. Numbers: 2, 10, 1. */
+ * other, so that a dot is blended once for each edge that it lies on. Numbers: 2, 10, 1. */
 uint8_t thermal_draw_border(uint32_t w, uint32_t h, thermal_rgba color, uint8_t *buf,
                             size_t length);
 

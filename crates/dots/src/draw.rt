@@ -17,6 +17,7 @@ use super::multiply::multiply_table;
 use colour::RGBA;
 
 fn draw_dot(s: RGBA, multiply: bool, c: RGBA) -> RGBA
+    requires { ⌜ 0 < c .a ⌝ }
     ensures { λ r. ⌜ r ≡ drawn multiply c s ⌝ }
 {
     if multiply {
@@ -27,7 +28,7 @@ fn draw_dot(s: RGBA, multiply: bool, c: RGBA) -> RGBA
 
 // Dot by dot, with nothing made beforehand.
 fn draw_few(buf: &mut [u8], at: usize, count: usize, multiply: bool, c: RGBA)
-    requires { ⌜ (at + count) * 4 ≤ length (now buf) ⌝ }
+    requires { ⌜ ((at + count) * 4 ≤ length (now buf)) × (0 < c .a) ⌝ }
     ensures { λ _. ⌜ now (buf .exit) ≡ change (within at (at + count)) (λ _ s. drawn multiply c s) (now (buf .entry)) ⌝ }
 {
     let end = at + count;
@@ -47,8 +48,7 @@ pub const TABLE_DOTS: usize = 128;
 // The same for the arrays of 16-bit numbers.
 const LANE_DOTS: usize = 8;
 
-// Multiplying below full alpha outgrows the arrays of 16-bit numbers, by which all else goes. It goes
-// by tables, where there are many dots.
+// Multiplying below full alpha outgrows 16-bit numbers. It goes by tables, where there are many dots.
 pub fn needs_tables(c: RGBA, multiply: bool) -> bool
     ensures { λ r. ⌜ r ≡ needsTables multiply c ⌝ }
 {

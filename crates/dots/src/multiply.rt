@@ -1,11 +1,9 @@
 // A colour multiplied over dots by whole numbers: for all bytes the six f32 operations give the
-// whole number nearest s * c * a / 65025, which colour proves. A long run of dots goes by tables of
-// the 256 answers for each channel, since a lookup is sooner done than a division.
+// whole number nearest s * c * a / 65025, which colour proves. Below full alpha a long run of dots
+// goes by tables of the 256 answers for each channel, since a lookup is sooner done than a division.
 ghost use mathlib.Core.Path.{_≡_};
 ghost use Prim.Native.Nat.{_+_, _*_, _≤_, _<_};
-ghost use lib.Dec.{eqb};
 ghost use lib.ListN.{length};
-ghost use Rattle.colour.specs.Choice.{if_then_else_};
 ghost use Rattle.colour.specs.Channel.{nearest, multiplyByte};
 ghost use Rattle.colour.specs.Colour.{multiplied};
 ghost use Rattle.dots.specs.Dots.{change, within};
@@ -22,24 +20,14 @@ pub fn scale_byte(s: u8, f: u32) -> u8
     (((s as u32) * f + 32512) / 65025) as u8
 }
 
-// What a channel is scaled by. Alpha 0 changes nothing, and neither does 65025, so that no dot needs
-// a branch.
-fn factor(c: u8, a: u8) -> u32
-    ensures { λ r. ⌜ r ≡ (if eqb a 0 then 65025 else c * a) ⌝ }
-{
-    if a == RGBA::TRANSPARENT {
-        return 65025;
-    }
-    (c as u32) * (a as u32)
-}
-
 fn multiply_byte(s: u8, c: u8, a: u8) -> u8
-    ensures { λ r. ⌜ r ≡ (if eqb a 0 then s else multiplyByte s c a) ⌝ }
+    ensures { λ r. ⌜ r ≡ multiplyByte s c a ⌝ }
 {
-    scale_byte(s, factor(c, a))
+    scale_byte(s, (c as u32) * (a as u32))
 }
 
 pub fn multiply_dot(s: RGBA, c: RGBA) -> RGBA
+    requires { ⌜ 0 < c .a ⌝ }
     ensures { λ r. ⌜ r ≡ multiplied c s ⌝ }
 {
     RGBA {

@@ -93,11 +93,11 @@ entryOn s e i j d =
 
 -- ---- the entry on rows of a buffer
 
--- a dot in column i of the entry's own row own + j, drawn on d
+-- the entry's pixel in column i of its own row own + j, drawn on the dot d
 abbrev pub ownRow : List ℕ → Entry → ℕ → ℕ → ℕ → RGBA → RGBA
 ownRow s e own i j d = drawn (multiplies (e .mode)) (entryPixel s e i (own + j)) d
 
--- row `from` of the picture and those after it stand in a buffer from row `top` on, W dots wide
+-- the entry applied to `rows` rows of the picture from row `from` on, which stand in a buffer from row `top` on, W dots wide
 unfoldable pub entryRows : List ℕ → Entry → ℕ → ℕ → ℕ → ℕ → List ℕ → List ℕ
 entryRows s e W top from rows l = areaOn W 0 top W rows (λ i j d. entryOn s e i (from + j) d) l
 

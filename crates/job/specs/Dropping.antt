@@ -20,7 +20,7 @@ use Rattle.job.specs.Commands.{sound, paperWidth, commands}
 abbrev pub mostCommands : ℕ
 mostCommands = 64
 
--- commands cs, of bytes that keep the job rules or do not
+-- 11, 12, of bytes that keep the job rules or do not, and the commands cs that they hold
 unfoldable pub numberOf : Bool → List Command → ℕ
 numberOf isSound cs = if not isSound then badJob else if ltb mostCommands (length cs) then tooLong else done
 

@@ -20,8 +20,8 @@ use Rattle.dots.proofs.Bytes.{Over, over-none, over-step, over-change}
 use Rattle.dots.proofs.Mixed.{Bytes}
 use Rattle.dots.proofs.Scaled.{scaled}
 use Rattle.pixels.specs.Pixels.{pixelsOn}
-use Rattle.pixels.specs.Steps.{unmixed, allUnmixed, inks, alphas, spreadOn, drawnByte}
-use Rattle.pixels.proofs.Unmixed.{all-unmixed-at}
+use Rattle.pixels.specs.Steps.{crisp, allCrisp, inks, alphas, spreadOn, drawnByte}
+use Rattle.pixels.proofs.Crispness.{all-crisp-at}
 use Rattle.pixels.proofs.Spread.{spread-at}
 
 -- ---- one byte
@@ -56,7 +56,7 @@ module _ (p : RGBA) {t : Bool} where
   unfolding inks
   inks-some e n = rw (e, ne-eqb (p .a) 0 n)
 
-  pub alphas-none : t ≡ true → p .a ≡ 0 → white ≡ alphas t p
+  pub alphas-none : t ≡ true → p .a ≡ 0 → rgba 255 255 255 255 ≡ alphas t p
   unfolding alphas
   alphas-none e n = rw (e, eq-eqb (p .a) 0 n)
 
@@ -94,8 +94,8 @@ bytes-drawn true p s hp hs = go (eqb (p .a) 0) refl ∙ drawn-multiplied p s ref
 
     go : (n : Bool) → eqb (p .a) 0 ≡ n
         → (let q = (if n then white else rgba (p .r) (p .g) (p .b) 255) in
-        let m = (if n then white else rgba (p .a) (p .a) (p .a) 255) in
-        rgba (near (s .r) (q .r) (m .r)) (near (s .g) (q .g) (m .g)) (near (s .b) (q .b) (m .b)) (near (s .a) (q .a) (m .a))) ≡ multiplied p s
+        let a = (if n then 255 else p .a) in
+        rgba (near (s .r) (q .r) a) (near (s .g) (q .g) a) (near (s .b) (q .b) a) (near (s .a) (q .a) 255)) ≡ multiplied p s
     go true e = rgba-eq (stays _) (stays _) (stays _) (stays _) ∙ multiplied-none p s (eqb-true _ _ e)
     go false e =
         rgba-eq refl refl refl (stays _)
@@ -129,12 +129,12 @@ byte-drawn t p s hp hs = each-byte (λ k. drawnByte t (chan s k) (chan (inks t p
     byte : (k : ℕ) → chan (byBytes t p s) k ≡ chan (drawn t p s) k
     byte k = ap (λ (x : RGBA). chan x k) (bytes-drawn t p s hp hs)
 
--- multiplied, the bytes of a pixel that needs no mixing are at full alpha
-full-alpha : (p : RGBA) → unmixed p ≡ true → (k : ℕ) → k < 4 → chan (alphas true p) k ≡ 255
-unfolding unmixed alphas chan
+-- multiplied, the bytes of a clear or opaque pixel are at full alpha
+full-alpha : (p : RGBA) → crisp p ≡ true → (k : ℕ) → k < 4 → chan (alphas true p) k ≡ 255
+unfolding crisp alphas chan
 full-alpha p u = each-byte (λ k. chan (alphas true p) k ≡ 255) (byte 0) (byte 1) (byte 2) (byte 3)
   where
-    whole : (n f : Bool) → eqb (p .a) 0 ≡ n → eqb (p .a) 255 ≡ f → (n || f) ≡ true → (if n then white else rgba (p .a) (p .a) (p .a) 255) ≡ white
+    whole : (n f : Bool) → eqb (p .a) 0 ≡ n → eqb (p .a) 255 ≡ f → (n || f) ≡ true → (let a = (if n then 255 else p .a) in rgba a a a 255) ≡ white
     whole true f en ef h = refl
     whole false true en ef h = let e : p .a ≡ 255 = eqb-true _ _ ef in rgba-eq e e e refl
     whole false false en ef h = absurd (true≢false (sym h))
@@ -143,11 +143,11 @@ full-alpha p u = each-byte (λ k. chan (alphas true p) k ≡ 255) (byte 0) (byte
     byte k = ap (λ (x : RGBA). chan x k) (whole (eqb (p .a) 0) (eqb (p .a) 255) refl refl u)
 
 pub full-alphas : (pixels z : List ℕ) (from count : ℕ) {t f : Bool} {m : List ℕ} → count * 4 ≤ length z → m ≡ spreadOn (alphas t) pixels from count z
-    → (f ≡ false) ⊎ ((t ≡ true) × (allUnmixed pixels from count ≡ true)) → (j : ℕ) → j < count * 4 → (f ≡ false) ⊎ (getD m j 0 ≡ 255)
+    → (f ≡ false) ⊎ ((t ≡ true) × (allCrisp pixels from count ≡ true)) → (j : ℕ) → j < count * 4 → (f ≡ false) ⊎ (getD m j 0 ≡ 255)
 full-alphas pixels z from count {t} {f} {m} h em w j v =
     ⊎-elim
     (λ e. inl e)
-    (λ e. inr (spread-at (alphas t) pixels from z count h em j v ∙ rw (e .0) (full-alpha (dotAt pixels (from + j / 4)) (all-unmixed-at pixels from count (j / 4) (omega arith) (e .1)) (j % 4) (omega arith))))
+    (λ e. inr (spread-at (alphas t) pixels from z count h em j v ∙ rw (e .0) (full-alpha (dotAt pixels (from + j / 4)) (all-crisp-at pixels from count (j / 4) (omega arith) (e .1)) (j % 4) (omega arith))))
     w
 
 -- ---- the loop over n bytes: j of them are drawn in b, from byte `to`, with the inks q at the alphas m

@@ -1,4 +1,4 @@
-mod Unmixed
+mod Crispness
 mod Runs
 mod Spread
 mod ByteWise

@@ -7,7 +7,7 @@ ghost use mathlib.Core.Path.{_≡_};
 ghost use Prim.Native.Nat.{_+_, _*_, _≤_};
 ghost use lib.ListN.{length};
 ghost use Rattle.pixels.specs.Pixels.{pixelsOn};
-ghost use Rattle.pixels.specs.Steps.{allUnmixed, inks, alphas, spreadOn, drawnByte};
+ghost use Rattle.pixels.specs.Steps.{allCrisp, inks, alphas, spreadOn, drawnByte};
 use colour::RGBA;
 use colour::channel::blend_channel;
 use dots::load_dot;
@@ -36,13 +36,11 @@ fn alphas(p: RGBA, multiply: bool) -> RGBA
     ensures { λ r. ⌜ r ≡ alphas multiply p ⌝ }
 {
     if multiply {
-        if p.a == RGBA::TRANSPARENT {
-            return RGBA::WHITE;
-        }
+        let a = if p.a == RGBA::TRANSPARENT { 255 } else { p.a };
         return RGBA {
-            r: p.a,
-            g: p.a,
-            b: p.a,
+            r: a,
+            g: a,
+            b: a,
             a: 255,
         };
     }
@@ -59,22 +57,30 @@ fn alphas(p: RGBA, multiply: bool) -> RGBA
     }
 }
 
-// To arrays of their own, which no write to the dots can change, so that the compiler need not ask.
-fn spread(q: &mut [u8], m: &mut [u8], count: usize, pixels: &[u8], from: usize, multiply: bool)
-    requires { ⌜ (count * 4 ≤ length (now q)) × (count * 4 ≤ length (now m)) × ((from + count) * 4 ≤ length (now pixels)) ⌝ }
-    ensures { λ _. ⌜ now (q .exit) ≡ spreadOn (inks multiply) (now (pixels .entry)) from count (now (q .entry)) ⌝ }
-    ensures { λ _. ⌜ now (m .exit) ≡ spreadOn (alphas multiply) (now (pixels .entry)) from count (now (m .entry)) ⌝ }
+// Inks and alphas are written to arrays of their own: the compiler need not ask whether a write to the
+// dots changes them.
+fn spread(
+    ink: &mut [u8],
+    alpha: &mut [u8],
+    count: usize,
+    pixels: &[u8],
+    from: usize,
+    multiply: bool,
+)
+    requires { ⌜ (count * 4 ≤ length (now ink)) × (count * 4 ≤ length (now alpha)) × ((from + count) * 4 ≤ length (now pixels)) ⌝ }
+    ensures { λ _. ⌜ now (ink .exit) ≡ spreadOn (inks multiply) (now (pixels .entry)) from count (now (ink .entry)) ⌝ }
+    ensures { λ _. ⌜ now (alpha .exit) ≡ spreadOn (alphas multiply) (now (pixels .entry)) from count (now (alpha .entry)) ⌝ }
 {
     let mut i = 0;
     while i < count {
         let p = load_dot(pixels, from + i);
-        store_dot(q, i, inks(p, multiply));
-        store_dot(m, i, alphas(p, multiply));
+        store_dot(ink, i, inks(p, multiply));
+        store_dot(alpha, i, alphas(p, multiply));
         i += 1;
     }
 }
 
-// Whatever is multiplied at full alpha outgrows no 16 bits.
+// At full alpha a product fits 16 bits.
 fn draw_byte(s: u8, c: u8, a: u8, multiply: bool, full: bool) -> u8
     requires { ⌜ (full ≡ false) ⊎ (a ≡ 255) ⌝ }
     ensures { λ r. ⌜ r ≡ drawnByte multiply s c a ⌝ }
@@ -99,23 +105,23 @@ fn draw_some(
     full: bool,
 )
     requires { ⌜ (count ≤ 16) × ((at + count) * 4 ≤ length (now buf)) × ((from + count) * 4 ≤ length (now pixels)) ⌝ }
-    requires { ⌜ (full ≡ false) ⊎ ((multiply ≡ true) × (allUnmixed (now pixels) from count ≡ true)) ⌝ }
+    requires { ⌜ (full ≡ false) ⊎ ((multiply ≡ true) × (allCrisp (now pixels) from count ≡ true)) ⌝ }
     ensures { λ _. ⌜ now (buf .exit) ≡ pixelsOn multiply (now (pixels .entry)) from at count (now (buf .entry)) ⌝ }
 {
     // four bytes for each of 16 pixels
-    let mut q = [0u8; 64];
-    let mut m = [0u8; 64];
-    spread(&mut q, &mut m, count, pixels, from, multiply);
+    let mut ink = [0u8; 64];
+    let mut alpha = [0u8; 64];
+    spread(&mut ink, &mut alpha, count, pixels, from, multiply);
     let to = at * 4;
     let n = count * 4;
     let mut j = 0;
     while j < n {
-        buf[to + j] = draw_byte(buf[to + j], q[j], m[j], multiply, full);
+        buf[to + j] = draw_byte(buf[to + j], ink[j], alpha[j], multiply, full);
         j += 1;
     }
 }
 
-// With `full` every pixel that is not clear is multiplied at full alpha.
+// With `full` the pixels are multiplied, and all of them are clear or opaque.
 pub fn draw_bytes(
     buf: &mut [u8],
     at: usize,
@@ -126,7 +132,7 @@ pub fn draw_bytes(
     full: bool,
 )
     requires { ⌜ ((at + count) * 4 ≤ length (now buf)) × ((from + count) * 4 ≤ length (now pixels)) ⌝ }
-    requires { ⌜ (full ≡ false) ⊎ ((multiply ≡ true) × (allUnmixed (now pixels) from count ≡ true)) ⌝ }
+    requires { ⌜ (full ≡ false) ⊎ ((multiply ≡ true) × (allCrisp (now pixels) from count ≡ true)) ⌝ }
     ensures { λ _. ⌜ now (buf .exit) ≡ pixelsOn multiply (now (pixels .entry)) from at count (now (buf .entry)) ⌝ }
 {
     let mut i = 0;

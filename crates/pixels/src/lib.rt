@@ -2,7 +2,7 @@
 // pixels that their caller knows to be there.
 mod bytes;
 mod cover;
-mod mixing;
+mod crisp;
 
 ghost use mathlib.Core.Path.{_≡_};
 ghost use Prim.Native.Nat.{_+_, _*_, _≤_};
@@ -10,25 +10,25 @@ ghost use lib.ListN.{length};
 ghost use Rattle.pixels.specs.Pixels.{pixelsOn};
 use bytes::draw_bytes;
 use cover::cover_each;
-use mixing::all_unmixed;
+use crisp::all_crisp;
 
-// Whether any pixel has to be mixed is told first, since that is sooner done than mixing: of a bit
-// image none has. Each way is named where it is gone, so that the compiler makes a loop for it that
-// does not ask which it is.
+// Whether all pixels are clear or opaque is told first, since that is sooner done than drawing them as
+// if they were not. Each loop is called with its mode as a constant, so that the compiler makes one for
+// it that does not ask which it is.
 pub fn put_run(buf: &mut [u8], at: usize, count: usize, pixels: &[u8], from: usize, multiply: bool)
     requires { ⌜ ((at + count) * 4 ≤ length (now buf)) × ((from + count) * 4 ≤ length (now pixels)) ⌝ }
     ensures { λ _. ⌜ now (buf .exit) ≡ pixelsOn multiply (now (pixels .entry)) from at count (now (buf .entry)) ⌝ }
 {
-    let unmixed = all_unmixed(pixels, from, count);
+    let crisp = all_crisp(pixels, from, count);
     if multiply {
-        if unmixed {
+        if crisp {
             draw_bytes(buf, at, count, pixels, from, true, true);
             return;
         }
         draw_bytes(buf, at, count, pixels, from, true, false);
         return;
     }
-    if unmixed {
+    if crisp {
         cover_each(buf, at, count, pixels, from);
         return;
     }

@@ -5,7 +5,8 @@ use crate::error::done;
 use crate::lent::{self, Rectangle};
 use crate::{Error, Image, Rgba};
 
-/// What does not fit is cropped: at the right always, at the bottom if growth is off.
+/// What is put is cropped where `x + w` is above the width, or growth is off and `y + w` (its width, as
+/// in the original) is above the height: then to the canvas's width and, with growth off, to its height.
 impl Canvas {
     /// Blends or multiplies pixels, four bytes each, onto an area.
     ///

@@ -5,13 +5,13 @@ use borrow.Author.Needs.{needs}
 use Rattle.pixels.proofs.put_run.Statement.{statement}
 use Rattle.pixels.proofs.put_run.Tie as tie
 
-all-unmixed-requires : tie.Need-all-unmixed-requires
-all-unmixed-requires c κs = search needs
+all-crisp-requires : tie.Need-all-crisp-requires
+all-crisp-requires c κs = search needs
 
 draw-bytes-requires : tie.Need-draw-bytes-requires
 draw-bytes-requires c κs =
     let u = c .before .before .before in
-    (u .before .before .before .pre, inr (refl, sym (u .all-unmixed .ensures) ∙ c .before .if2 .taken))
+    (u .before .before .before .pre, inr (refl, sym (u .all-crisp .ensures) ∙ c .before .if2 .taken))
 
 same-length : tie.Need-same-length
 same-length c = search needs
@@ -31,7 +31,7 @@ returns-2 c = rw (c .before .before .before .before .before .if1 .taken) (c .bef
 cover-each-requires : tie.Need-cover-each-requires
 cover-each-requires c κs =
     let u = c .before .before .before in
-    (u .before .before .before .pre, sym (u .all-unmixed .ensures) ∙ c .before .if3 .taken)
+    (u .before .before .before .pre, sym (u .all-crisp .ensures) ∙ c .before .if3 .taken)
 
 same-length-3 : tie.Need-same-length-3
 same-length-3 c = search needs
@@ -52,7 +52,7 @@ pub put-run-spec : {M : Type 1} → statement M
 put-run-spec =
     tie.close
     (tie.spec
-    all-unmixed-requires
+    all-crisp-requires
     draw-bytes-requires
     same-length
     returns

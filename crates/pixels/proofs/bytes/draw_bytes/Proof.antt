@@ -1,7 +1,7 @@
 -- `pixels::bytes::draw_bytes` meets its contract. Assumes nothing.
 use native.Mathlib.Omega.{arith}
 use Prim.Native.Nat.{_-_}
-use Rattle.pixels.proofs.Unmixed.{full-part}
+use Rattle.pixels.proofs.Crispness.{full-part}
 use Rattle.pixels.proofs.Runs.{Drawn, drawn-start, drawn-more, drawn-end}
 use Rattle.pixels.proofs.bytes.draw_bytes.Statement.{statement}
 use Rattle.pixels.proofs.bytes.draw_bytes.Tie as tie

@@ -5,8 +5,8 @@ use mathlib.Core.Logic.{⊎-elim}
 use mathlib.Core.Path.{refl, ap, _∙_}
 use Rattle.dots.proofs.Laws.{drawn-full}
 use Prim.Native.Nat.{_-_}
-use Rattle.pixels.specs.Steps.{unmixed}
-use Rattle.pixels.proofs.Unmixed.{all-unmixed-at, unmixed-leaves}
+use Rattle.pixels.specs.Steps.{crisp}
+use Rattle.pixels.proofs.Crispness.{all-crisp-at, crisp-leaves}
 use Rattle.pixels.proofs.Runs.{Drawn, drawn-start, drawn-next, drawn-end}
 use Rattle.pixels.proofs.cover.cover_each.Statement.{statement}
 use Rattle.pixels.proofs.cover.cover_each.Tie as tie
@@ -50,10 +50,10 @@ loop-again c =
     let s = d .before .before in
     let g = s .before .before in
     let h = g .before .before in
-    let u = ap unmixed (g .load-dot .ensures) ∙ all-unmixed-at _ _ _ _ (g .before .loop-test .taken) (h .before .before .before .pre .1) in
+    let u = ap crisp (g .load-dot .ensures) ∙ all-crisp-at _ _ _ _ (g .before .loop-test .taken) (h .before .before .before .pre .1) in
     drawn-next _ _ _ _ _ _ (h .loop .inv) (g .before .loop-test .taken) (h .before .before .before .pre .0 .0)
     (g .load-dot .ensures) (s .load-dot2 .ensures)
-    (⊎-elim (λ w. w .1 ∙ drawn-full (g .load-dot .result) (s .load-dot2 .result) refl (w .0 .taken)) (λ w. w .1 ∙ unmixed-leaves (g .load-dot .result) (s .load-dot2 .result) u (w .0 .left)) (d .if1 .came))
+    (⊎-elim (λ w. w .1 ∙ drawn-full (g .load-dot .result) (s .load-dot2 .result) refl (w .0 .taken)) (λ w. w .1 ∙ crisp-leaves (g .load-dot .result) (s .load-dot2 .result) u (w .0 .left)) (d .if1 .came))
     (c .before .before .store-dot .ensures)
 
 same-length : tie.Need-same-length Inv-loop μ-loop
