@@ -13,7 +13,7 @@ use Rattle.colour.proofs.Tests.{and-both}
 use Rattle.dots.specs.Dots.{dotAt, setDot, change, within}
 use Rattle.dots.proofs.Laws.{change-none, change-step, change-more, change-where, within-yes, within-true, within-then}
 use Rattle.dots.proofs.Blocks.{in-row}
-use Rattle.moves.specs.Parts.{inRect}
+use Rattle.moves.specs.Steps.{inRect}
 
 -- ---- no dot, one dot
 

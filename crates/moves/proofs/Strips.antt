@@ -9,7 +9,7 @@ use lib.ListN.{length}
 use Rattle.colour.specs.declared.RGBA.{RGBA}
 use Rattle.dots.specs.Dots.{dotAt, setDot, change, within}
 use Rattle.dots.proofs.Laws.{length-change, run-none, run-on}
-use Rattle.moves.specs.Parts.{inRect}
+use Rattle.moves.specs.Steps.{inRect}
 use Rattle.moves.proofs.Rects.{column-none, column-next, strip-none, strip-next, strip-end}
 use Rattle.moves.proofs.Turns.{dot-room}
 

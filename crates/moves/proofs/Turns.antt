@@ -12,7 +12,7 @@ use Rattle.dots.proofs.Laws.{length-change, change-by, run-none, run-turn, with
 use Rattle.dots.proofs.Blocks.{in-row}
 use Rattle.moves.specs.declared.turned.Turn.{Turn}
 use Rattle.moves.specs.declared.turned.Turn.the-variants.{Quarter, Half, ThreeQuarters}
-use Rattle.moves.specs.Parts.{quarter, along}
+use Rattle.moves.specs.Steps.{quarter, along}
 use Rattle.moves.specs.Moves.{columnTo, rowTo, turnedWide, turnedTall, columnFrom, rowFrom, turnedAt, turnedDot, turnedOn}
 use Rattle.moves.proofs.Rects.{factor}
 

@@ -1,3 +1,4 @@
 -- What the contracts of moves say.
 pub mod Parts
 pub mod Moves
+pub mod Steps

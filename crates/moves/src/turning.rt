@@ -4,7 +4,7 @@ ghost use Prim.Native.Nat.{_+_, _-_, _*_, _≤_, _<_};
 ghost use lib.ListN.{length};
 ghost use Rattle.dots.specs.Dots.{dotAt, change, within};
 ghost use Rattle.moves.specs.Moves.{turnedDot, turnedOn};
-ghost use Rattle.moves.specs.Parts.{inRect, along, quarter};
+ghost use Rattle.moves.specs.Steps.{quarter, along, inRect};
 use super::turned::Turn;
 use dots::get_dot;
 use dots::load_dot;

@@ -1,6 +1,6 @@
 -- `moves::turning::along` meets its contract. Assumes nothing.
 use borrow.Author.Needs.{needs}
-use Rattle.moves.specs.Parts.{along}
+use Rattle.moves.specs.Steps.{along}
 use Rattle.moves.proofs.turning.along.Statement.{statement}
 use Rattle.moves.proofs.turning.along.Tie as tie
 

@@ -1,7 +1,7 @@
 -- `moves::turn` meets its contract. Assumes nothing.
 use mathlib.Core.Path.{_∙_}
 use borrow.Author.Needs.{needs}
-use Rattle.moves.specs.Parts.{quarter}
+use Rattle.moves.specs.Steps.{quarter}
 use Rattle.moves.proofs.Turns.{half-turned}
 use Rattle.moves.proofs.turning.turn.Statement.{statement}
 use Rattle.moves.proofs.turning.turn.Tie as tie

@@ -6,7 +6,7 @@ use native.Mathlib.Omega.{arith}
 use lib.ListN.{length}
 use denote.Ref.{now}
 use Rattle.moves.specs.Moves.{turnedDot}
-use Rattle.moves.specs.Parts.{quarter}
+use Rattle.moves.specs.Steps.{quarter}
 use Rattle.moves.proofs.Turns.{along-reads, quarter-dot}
 use Rattle.moves.proofs.Strips.{Down, down-start, down-room, down-next, down-end}
 use Rattle.moves.proofs.turning.turn_column.Statement.{statement}

@@ -2,7 +2,7 @@
 use borrow.Author.Needs.{needs}
 use Prim.Native.Nat.{_-_}
 use Rattle.moves.specs.Moves.{turnedDot}
-use Rattle.moves.specs.Parts.{quarter}
+use Rattle.moves.specs.Steps.{quarter}
 use Rattle.moves.proofs.Strips.{Across, across-start, across-next, across-end}
 use Rattle.moves.proofs.turning.turn_columns.Statement.{statement}
 use Rattle.moves.proofs.turning.turn_columns.Tie as tie

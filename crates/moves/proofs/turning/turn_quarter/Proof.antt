@@ -3,7 +3,7 @@ use borrow.Author.Needs.{needs}
 use Prim.Native.Nat.{_-_}
 use native.Mathlib.Omega.{arith}
 use Rattle.moves.specs.Moves.{turnedDot, turnedOn}
-use Rattle.moves.specs.Parts.{quarter}
+use Rattle.moves.specs.Steps.{quarter}
 use Rattle.moves.proofs.Strips.{Strips, strips-start, strips-next, strips-end}
 use Rattle.moves.proofs.turning.turn_quarter.Statement.{statement}
 use Rattle.moves.proofs.turning.turn_quarter.Tie as tie
