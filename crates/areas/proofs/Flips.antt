@@ -1,4 +1,5 @@
--- The two loops of a flip: over the dots of two rows, and over pairs of rows. Each has a start, a next and an end. Assumes nothing.
+-- A piece of two rows flipped, and the two loops of a flip: over the pieces of two rows, and over pairs of rows. Each loop has a start, a next and an
+-- end. Assumes nothing.
 use mathlib.Core.Path.{_≡_, refl, sym, ap, _∙_}
 use mathlib.Core.Logic.{_⊎_, inl, inr}
 use mathlib.Core.List.{List}
@@ -7,21 +8,21 @@ use Prim.Native.Nat.{ℕ, _+_, _-_, _*_, _/_, _%_, _≤_, _<_}
 use native.Mathlib.Nat.{mul-le-mul-right, add-zero, add-mul}
 use native.Mathlib.Omega.{arith}
 use lib.ListN.{length}
-use lib.Dec.{eqb}
 use Rattle.colour.specs.Choice.{if_then_else_}
 use Rattle.colour.specs.declared.RGBA.{RGBA}
 use Rattle.colour.specs.Colour.{blended}
-use Rattle.dots.specs.Dots.{dotAt, setDot, change, within}
+use Rattle.dots.specs.Dots.{dotAt, change, within}
 use Rattle.dots.proofs.Laws.{
-  within-one,
   below,
   length-change,
+  change-picked,
   change-kept,
   change-none,
+  change-same,
   change-where,
   change-by,
+  change-then,
   change-more,
-  change-step,
   Place,
   before,
   inside,
@@ -32,8 +33,10 @@ use Rattle.dots.proofs.Laws.{
   within-high,
   within-true,
   within-then,
+  drawn-blended,
 }
 use Rattle.dots.proofs.Blocks.{in-row}
+use Rattle.pixels.specs.Pixels.{pixelsOn}
 use Rattle.areas.specs.Areas.{Fits, inArea, areaOn, flippedOn}
 use Rattle.areas.specs.Rows.{pairOn}
 use Rattle.areas.proofs.Laws.{at-column, run-row}
@@ -49,10 +52,11 @@ no-run a k = by (place a a k)
     by (inside u v) = absurd (omega arith)
     by (past u v) = within-high a a k v
 
-run-one : (a i k : ℕ) → within a (a + (i + 1)) k ≡ (within a (a + i) k || eqb k (a + i))
-run-one a i k =
-    let e : a + (i + 1) ≡ a + i + 1 = omega arith in
-    rw e (within-then a (a + i) (a + i + 1) k (omega arith) (omega arith) ∙ rw within-one)
+-- the first i dots of a run, and the n after them
+run-more : (a i n k : ℕ) → within a (a + (i + n)) k ≡ (within a (a + i) k || within (a + i) (a + i + n) k)
+run-more a i n k =
+    let e : a + (i + n) ≡ a + i + n = omega arith in
+    rw e (within-then a (a + i) (a + i + n) k (omega arith) (omega arith))
 
 -- a run and one that starts in it or where it ends
 run-cover : (a b c d k : ℕ) → a ≤ b → b ≤ c → c ≤ d → (within a c k || within b d k) ≡ within a d k
@@ -65,7 +69,7 @@ run-cover a b c d k p q r = by (place a c k) (place b d k)
     by (past u v) (inside s t) = rw (within-high a c k v, within-yes b d k s t, within-yes a d k u t)
     by (past u v) (past s t) = rw (within-high a c k v, within-high b d k t, within-high a d k t)
 
-regroup : (a b c d : Bool) → ((a || c) || (b || d)) ≡ (((a || b) || c) || d)
+regroup : (a b c d : Bool) → ((a || c) || (b || d)) ≡ ((a || b) || (c || d))
 regroup true b c d = refl
 regroup false true true d = refl
 regroup false true false d = refl
@@ -81,14 +85,85 @@ either : (s t : Bool) → (s || t) ≡ true → (s ≡ true) ⊎ (t ≡ true)
 either true t e = inl refl
 either false t e = inr e
 
+-- which of two runs a dot lies in
+side : (a b n k : ℕ) → (within a (a + n) k || within b (b + n) k) ≡ true → ((a ≤ k) × (k < a + n)) ⊎ ((b ≤ k) × (k < b + n))
+side a b n k e = by (either _ _ e)
+  where
+    by : (within a (a + n) k ≡ true) ⊎ (within b (b + n) k ≡ true) → ((a ≤ k) × (k < a + n)) ⊎ ((b ≤ k) × (k < b + n))
+    by (inl u) = inl (within-true a (a + n) k u)
+    by (inr u) = inr (within-true b (b + n) k u)
+
+-- ---- a piece of n dots of two rows: the dots of each are taken from l, and drawn on the other's
+
+module _ (top bottom n : ℕ) (l : List ℕ) where
+  abbrev taken : ℕ → List ℕ → List ℕ
+  taken from room = change (within 0 (0 + n)) (λ k _. dotAt l (from + (k - 0))) room
+
+  -- the dots taken from dot `from` on, drawn on those of b from dot `at` on
+  drawn-on : (from at : ℕ) (z b : List ℕ) {p m : List ℕ} → n * 4 ≤ length z → p ≡ taken from z → m ≡ pixelsOn false p 0 at n b
+      → m ≡ change (within at (at + n)) (λ k d. blended (dotAt l (from + (k - at))) d) b
+  unfolding pixelsOn
+  drawn-on from at z b {p} room ep em =
+      em
+      ∙ change-by _ _ _ b
+      (λ k t.
+      let i = within-true at (at + n) k t in
+      let j = 0 + (k - at) in
+      let e : dotAt p j ≡ dotAt l (from + (k - at)) =
+      ap (λ (x : List ℕ). dotAt x j) ep ∙ change-picked _ _ z j (within-yes 0 (0 + n) j (omega arith) (omega arith)) (omega arith) ∙ ap (dotAt l) (omega arith) in
+      sym (drawn-blended (dotAt p j) (dotAt b k) refl) ∙ ap (λ (c : RGBA). blended c (dotAt b k)) e)
+
+  -- a row that is its own mirror
+  pub piece-one : (z : List ℕ) {p m : List ℕ} → top ≡ bottom → n * 4 ≤ length z → p ≡ taken bottom z → m ≡ pixelsOn false p 0 top n l → m ≡ pairOn top bottom n l
+  unfolding pairOn
+  piece-one z e room ep em = drawn-on bottom top z l room ep em ∙ change-same _ _ _ _ l (λ k t. at k (place top (top + n) k))
+    where
+      at : (k : ℕ) → Place top (top + n) k
+          → (if within top (top + n) k then blended (dotAt l (bottom + (k - top))) (dotAt l k) else dotAt l k)
+          ≡ (if within top (top + n) k || within bottom (bottom + n) k
+          then blended (dotAt l (if within top (top + n) k then k + (bottom - top) else k - (bottom - top))) (dotAt l k)
+          else dotAt l k)
+      at k (before u) = rw (within-low top (top + n) k u, within-low bottom (bottom + n) k (omega arith))
+      at k (inside u v) = rw (within-yes top (top + n) k u v) (ap (λ (j : ℕ). blended (dotAt l j) (dotAt l k)) (omega arith))
+      at k (past u v) = rw (within-high top (top + n) k v, within-high bottom (bottom + n) k (omega arith))
+
+  -- two rows, one after the other
+  pub piece-two : (y z : List ℕ) {p q b m : List ℕ} → (top ≡ bottom) ⊎ (top + n ≤ bottom) → (top ≡ bottom → ⊥) → n * 4 ≤ length y → n * 4 ≤ length z → p ≡ taken bottom y → q ≡ taken top z
+      → b ≡ pixelsOn false p 0 top n l → m ≡ pixelsOn false q 0 bottom n b → m ≡ pairOn top bottom n l
+  unfolding pairOn
+  piece-two y z (inl e) different below above ep eq eb em = absurd (different e)
+  piece-two y z {b = b} (inr apart) different below above ep eq eb em =
+      drawn-on top bottom z b above eq em
+      ∙ rw (drawn-on bottom top y l below ep eb) (change-then _ _ _ _ l ∙ change-same _ _ _ _ l (λ k t. at k (place top (top + n) k) (place bottom (bottom + n) k)))
+    where
+      at : (k : ℕ) → Place top (top + n) k → Place bottom (bottom + n) k
+          → (if within top (top + n) k || within bottom (bottom + n) k
+          then
+          (if within bottom (bottom + n) k
+          then blended (dotAt l (top + (k - bottom))) (if within top (top + n) k then blended (dotAt l (bottom + (k - top))) (dotAt l k) else dotAt l k)
+          else blended (dotAt l (bottom + (k - top))) (dotAt l k))
+          else dotAt l k)
+          ≡ (if within top (top + n) k || within bottom (bottom + n) k
+          then blended (dotAt l (if within top (top + n) k then k + (bottom - top) else k - (bottom - top))) (dotAt l k)
+          else dotAt l k)
+      at k (inside u v) s =
+          rw (within-yes top (top + n) k u v, within-low bottom (bottom + n) k (omega arith)) (ap (λ (j : ℕ). blended (dotAt l j) (dotAt l k)) (omega arith))
+      at k (before u) s = rw (within-low top (top + n) k u, within-low bottom (bottom + n) k (omega arith))
+      at k (past u v) (before s) = rw (within-high top (top + n) k v, within-low bottom (bottom + n) k s)
+      at k (past u v) (inside s t) =
+          rw (within-high top (top + n) k v, within-yes bottom (bottom + n) k s t) (ap (λ (j : ℕ). blended (dotAt l j) (dotAt l k)) (omega arith))
+      at k (past u v) (past s t) = rw (within-high top (top + n) k v, within-high bottom (bottom + n) k t)
+
 -- ---- two rows: i dots of each are done in b
 
-module _ (top bottom w : ℕ) (l : List ℕ) where
-  abbrev other : ℕ → ℕ
-  other k = if within top (top + w) k then k + (bottom - top) else k - (bottom - top)
+-- pieces of rows that are one or apart are, too
+pub pair-apart : (top bottom w i n : ℕ) → (top ≡ bottom) ⊎ (top + w ≤ bottom) → i + n ≤ w → (top + i ≡ bottom + i) ⊎ (top + i + n ≤ bottom + i)
+pair-apart top bottom w i n (inl e) h = inl (omega arith)
+pair-apart top bottom w i n (inr a) h = inr (omega arith)
 
+module _ (top bottom w : ℕ) (l : List ℕ) where
   abbrev pairDot : ℕ → RGBA → RGBA
-  pairDot k d = blended (dotAt l (other k)) d
+  pairDot k d = blended (dotAt l (if within top (top + w) k then k + (bottom - top) else k - (bottom - top))) d
 
   abbrev done : ℕ → ℕ → Bool
   done i k = within top (top + i) k || within bottom (bottom + i) k
@@ -101,47 +176,56 @@ module _ (top bottom w : ℕ) (l : List ℕ) where
   pub pair-start : Pair 0 l
   pair-start = record { upto = omega arith; same = refl; sofar = change-none (done 0) pairDot l (λ k. rw (add-zero top, add-zero bottom, no-run top k, no-run bottom k)) }
 
-  turn : (p q : ℕ → Bool) (k : ℕ) → k * 4 + 4 ≤ length l → ((j : ℕ) → q j ≡ (p j || eqb j k))
-      → {b m : List ℕ} {d : RGBA} → b ≡ change p pairDot l → d ≡ pairDot k (dotAt l k) → m ≡ setDot b k d → m ≡ change q pairDot l
-  turn p q k r h eb ed em = em ∙ rw (ed, eb) (change-step p q pairDot l k r h)
-
-  module _ (apart : (top ≡ bottom) ⊎ (top + w ≤ bottom)) (order : top ≤ bottom) (room : (bottom + w) * 4 ≤ length l) {i : ℕ} (t : i < w) where
-    -- what the turn reads is not written yet
-    top-old : done i (top + i) ≡ false
-    top-old = rw (within-high top (top + i) (top + i) (omega arith)) (by apart)
-      where
-        by : (top ≡ bottom) ⊎ (top + w ≤ bottom) → within bottom (bottom + i) (top + i) ≡ false
-        by (inl e) = within-high bottom (bottom + i) (top + i) (omega arith)
-        by (inr e) = within-low bottom (bottom + i) (top + i) (omega arith)
-
-    bottom-old : done i (bottom + i) ≡ false
-    bottom-old = rw (within-high top (top + i) (bottom + i) (omega arith)) (within-high bottom (bottom + i) (bottom + i) (omega arith))
-
-    top-other : other (top + i) ≡ bottom + i
-    top-other = rw (within-yes top (top + w) (top + i) (omega arith) (omega arith)) (omega arith)
-
-    bottom-other : other (bottom + i) ≡ top + i
-    bottom-other = by apart
-      where
-        by : (top ≡ bottom) ⊎ (top + w ≤ bottom) → other (bottom + i) ≡ top + i
-        by (inl e) = rw (within-yes top (top + w) (bottom + i) (omega arith) (omega arith)) (omega arith)
-        by (inr e) = rw (within-high top (top + w) (bottom + i) (omega arith)) (omega arith)
-
-    pub pair-next : {b b' m : List ℕ} {s r d e : RGBA} → Pair i b → s ≡ dotAt b (top + i) → r ≡ dotAt b (bottom + i)
-        → d ≡ blended r s → e ≡ blended s r → b' ≡ setDot b (top + i) d → m ≡ setDot b' (bottom + i) e → Pair (i + 1) m
-    pair-next {b} {b'} {m} {s} {r} p es er ed ee eb em =
-        let old-s : s ≡ dotAt l (top + i) = es ∙ rw (p .sofar) (change-kept (done i) pairDot l (top + i) top-old) in
-        let old-r : r ≡ dotAt l (bottom + i) = er ∙ rw (p .sofar) (change-kept (done i) pairDot l (bottom + i) bottom-old) in
-        let half : ℕ → Bool = λ k. done i k || eqb k (top + i) in
-        let first : b' ≡ change half pairDot l =
-        turn (done i) half (top + i) (omega arith) (λ k. refl) (p .sofar) (ed ∙ rw (old-s, old-r, top-other)) eb in
-        let both : m ≡ change (done (i + 1)) pairDot l =
-        turn half (done (i + 1)) (bottom + i) (omega arith) (λ k. rw (run-one top i k, run-one bottom i k) (regroup (within top (top + i) k) (within bottom (bottom + i) k) _ _)) first (ee ∙ rw (old-s, old-r, bottom-other)) em in
-        record { upto = omega arith; same = ap length both ∙ length-change _ _ l; sofar = both }
-
-  pub pair-end : {i : ℕ} {b : List ℕ} → Pair i b → w ≤ i → b ≡ pairOn top bottom w l
+  -- the piece of n dots from dot i of each on
+  pub pair-next : (top ≡ bottom) ⊎ (top + w ≤ bottom) → top ≤ bottom → {i : ℕ} (n : ℕ) {b m : List ℕ} → Pair i b → i + n ≤ w
+      → m ≡ pairOn (top + i) (bottom + i) n b → Pair (i + n) m
   unfolding pairOn
-  pair-end {i} p t = let e : i ≡ w = omega (arith, p .upto) in rw e at (p .sofar)
+  pair-next apart order {i} n {b} {m} p h em =
+      record { upto = h; same = ap length em ∙ length-change _ _ b ∙ p .same; sofar = next }
+    where
+      picked : ℕ → Bool
+      picked k = within (top + i) (top + i + n) k || within (bottom + i) (bottom + i + n) k
+
+      -- a dot that is not done yet
+      undone : (k : ℕ) → top + i ≤ k → (k < bottom) ⊎ (bottom + i ≤ k) → done i k ≡ false
+      undone k u (inl v) = rw (within-high top (top + i) k u, within-low bottom (bottom + i) k v)
+      undone k u (inr v) = rw (within-high top (top + i) k u, within-high bottom (bottom + i) k v)
+
+      old : (k : ℕ) → top + i ≤ k → (k < bottom) ⊎ (bottom + i ≤ k) → dotAt b k ≡ dotAt l k
+      old k u v = ap (λ (x : List ℕ). dotAt x k) (p .sofar) ∙ change-kept (done i) pairDot l k (undone k u v)
+
+      here : (k : ℕ) → Place (top + i) (top + i + n) k → ((top + i ≤ k) × (k < top + i + n)) ⊎ ((bottom + i ≤ k) × (k < bottom + i + n)) → (top ≡ bottom) ⊎ (top + w ≤ bottom)
+          → (d : RGBA) → blended (dotAt b (if within (top + i) (top + i + n) k then k + (bottom + i - (top + i)) else k - (bottom + i - (top + i)))) d ≡ pairDot k d
+      here k (inside u v) s a d =
+          let e : bottom + i - (top + i) ≡ bottom - top = omega arith in
+          rw (within-yes (top + i) (top + i + n) k u v, within-yes top (top + w) k (omega arith) (omega arith), e)
+          (ap (λ (c : RGBA). blended c d) (old (k + (bottom - top)) (omega arith) (inr (omega arith))))
+      here k (before u) (inl s) a d = absurd (omega arith)
+      here k (before u) (inr s) a d = absurd (omega arith)
+      here k (past u v) (inl s) a d = absurd (omega arith)
+      here k (past u v) (inr s) (inl a) d = absurd (omega arith)
+      here k (past u v) (inr s) (inr a) d =
+          let e : bottom + i - (top + i) ≡ bottom - top = omega arith in
+          rw (within-high (top + i) (top + i + n) k v, within-high top (top + w) k (omega arith), e)
+          (ap (λ (c : RGBA). blended c d) (old (k - (bottom - top)) (omega arith) (inl (omega arith))))
+
+      fresh : (k : ℕ) → ((top + i ≤ k) × (k < top + i + n)) ⊎ ((bottom + i ≤ k) × (k < bottom + i + n)) → (top ≡ bottom) ⊎ (top + w ≤ bottom) → done i k ≡ false
+      fresh k (inl s) (inl a) = undone k (s .0) (inr (omega arith))
+      fresh k (inl s) (inr a) = undone k (s .0) (inl (omega arith))
+      fresh k (inr s) a = undone k (omega arith) (inr (s .0))
+
+      next : m ≡ change (done (i + n)) pairDot l
+      next =
+          em
+          ∙ change-by picked _ pairDot b (λ k e. here k (place (top + i) (top + i + n) k) (side (top + i) (bottom + i) n k e) apart _)
+          ∙ rw (p .sofar)
+          (change-more (done i) picked (done (i + n)) pairDot l
+          (λ k. rw (run-more top i n k, run-more bottom i n k) (regroup (within top (top + i) k) (within bottom (bottom + i) k) _ _))
+          (λ k e. fresh k (side (top + i) (bottom + i) n k e) apart))
+
+  pub pair-end : {i : ℕ} {b : List ℕ} → Pair i b → i ≡ w → b ≡ pairOn top bottom w l
+  unfolding pairOn
+  pair-end p e = rw e at (p .sofar)
 
 -- ---- pairs of rows: those above `top` and those from `bottom` on are done in b
 
@@ -226,19 +310,11 @@ module _ (W x y w h : ℕ) (l : List ℕ) where
         picked : ℕ → Bool
         picked k = within T (T + w) k || within L (L + w) k
 
-        -- which of the two rows a dot lies in
-        side : (k : ℕ) → picked k ≡ true → ((T ≤ k) × (k < T + w)) ⊎ ((L ≤ k) × (k < L + w))
-        side k e = by (either _ _ e)
-          where
-            by : (within T (T + w) k ≡ true) ⊎ (within L (L + w) k ≡ true) → ((T ≤ k) × (k < T + w)) ⊎ ((L ≤ k) × (k < L + w))
-            by (inl u) = inl (within-true T (T + w) k u)
-            by (inr u) = inr (within-true L (L + w) k u)
-
         done-more : m ≡ change (turned (top + 1) last) flipDot l
         done-more =
             em
-            ∙ change-by picked _ flipDot b (λ k e. here k (place T (T + w) k) (side k e) _)
-            ∙ rw (r .sofar) (change-more (turned top (last + 1)) picked (turned (top + 1) last) flipDot l more (λ k e. apart k (side k e)))
+            ∙ change-by picked _ flipDot b (λ k e. here k (place T (T + w) k) (side T L w k e) _)
+            ∙ rw (r .sofar) (change-more (turned top (last + 1)) picked (turned (top + 1) last) flipDot l more (λ k e. apart k (side T L w k e)))
           where
             here : (k : ℕ) → Place T (T + w) k → ((T ≤ k) × (k < T + w)) ⊎ ((L ≤ k) × (k < L + w))
                 → (d : RGBA) → blended (dotAt b (if within T (T + w) k then k + (L - T) else k - (L - T))) d ≡ flipDot k d

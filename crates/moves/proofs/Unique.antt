@@ -5,6 +5,7 @@ use Rattle.moves.proofs.run.move_run.Reads as move-run
 use Rattle.moves.proofs.lower.move_down.Reads as move-down
 use Rattle.moves.proofs.widening.widen.Reads as widen
 use Rattle.moves.proofs.turning.turn.Reads as turn
+use Rattle.moves.proofs.copy.copy_run.Reads as copy-run
 use Rattle.moves.proofs.copy.copy_dots.Reads as copy-dots
 use Rattle.moves.proofs.rgb.rgb_bytes.Reads as rgb-bytes
 
@@ -19,6 +20,9 @@ widen-one k a x y e f p q = both p q
 
 turn-one : OneContent turn.Post (λ k e. now (e .1 .1 .1 .1 .0))
 turn-one k a x y e f p q = both p q
+
+copy-run-one : OneContent copy-run.Post (λ k e. now (e .1 .1 .0))
+copy-run-one k a x y e f p q = both p q
 
 copy-dots-one : OneContent copy-dots.Post (λ k e. now (e .1 .1 .0))
 copy-dots-one k a x y e f p q = both p q

@@ -6,7 +6,7 @@ ghost use Rattle.dots.specs.Dots.{dotAt, change, within};
 ghost use Rattle.moves.specs.Moves.{copiedTo};
 
 // n dots of src from dot `from` on, written to out from dot `to` on. Bytes in a row become vectors.
-pub(crate) fn copy_run(src: &[u8], from: usize, out: &mut [u8], to: usize, n: usize)
+pub fn copy_run(src: &[u8], from: usize, out: &mut [u8], to: usize, n: usize)
     requires { ⌜ ((from + n) * 4 ≤ length (now src)) × ((to + n) * 4 ≤ length (now out)) ⌝ }
     ensures { λ _. ⌜ now (out .exit) ≡ change (within to (to + n)) (λ i _. dotAt (now (src .entry)) (from + (i - to))) (now (out .entry)) ⌝ }
 {

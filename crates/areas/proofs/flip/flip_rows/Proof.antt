@@ -1,8 +1,8 @@
 -- `areas::flip::flip_rows` meets its contract. Assumes nothing.
-use native.Mathlib.Omega.{arith}
 use borrow.Author.Needs.{needs}
 use Prim.Native.Nat.{_-_}
-use Rattle.areas.proofs.Flips.{Pair, pair-start, pair-next, pair-end}
+use native.Mathlib.Omega.{arith}
+use Rattle.areas.proofs.Flips.{Pair, pair-start, pair-apart, pair-next, pair-end}
 use Rattle.areas.proofs.flip.flip_rows.Statement.{statement}
 use Rattle.areas.proofs.flip.flip_rows.Tie as tie
 
@@ -15,59 +15,56 @@ abbrev μ-loop : tie.MeasureT-loop
 loop-holds : tie.Need-loop-holds Inv-loop μ-loop
 loop-holds c = pair-start _ _ _ _
 
-add-get-dot : tie.Need-add-get-dot Inv-loop μ-loop
-add-get-dot c = omega arith
+sub-loop : tie.Need-sub-loop Inv-loop μ-loop
+sub-loop c = search needs
 
-get-dot-requires : tie.Need-get-dot-requires Inv-loop μ-loop
-get-dot-requires c κs = omega arith
+add-flip-some : tie.Need-add-flip-some Inv-loop μ-loop
+add-flip-some c = search needs
 
-add-get-dot-2 : tie.Need-add-get-dot-2 Inv-loop μ-loop
-add-get-dot-2 c = omega arith
+add-flip-some-2 : tie.Need-add-flip-some-2 Inv-loop μ-loop
+add-flip-some-2 c = search needs
 
-get-dot-requires-2 : tie.Need-get-dot-requires-2 Inv-loop μ-loop
-get-dot-requires-2 c κs = omega arith
-
-blend-foreground-requires : tie.Need-blend-foreground-requires Inv-loop μ-loop
-blend-foreground-requires c κs = search needs
-
-blend-foreground-requires-2 : tie.Need-blend-foreground-requires-2 Inv-loop μ-loop
-blend-foreground-requires-2 c κs = search needs
-
-add-set-dot : tie.Need-add-set-dot Inv-loop μ-loop
-add-set-dot c = omega arith
-
-set-dot-requires : tie.Need-set-dot-requires Inv-loop μ-loop
-set-dot-requires c κs = omega arith
-
-add-set-dot-2 : tie.Need-add-set-dot-2 Inv-loop μ-loop
-add-set-dot-2 c = omega arith
-
-set-dot-requires-2 : tie.Need-set-dot-requires-2 Inv-loop μ-loop
-set-dot-requires-2 c κs = omega arith
+flip-some-requires : tie.Need-flip-some-requires Inv-loop μ-loop
+flip-some-requires c κs =
+    let p = c .before .before .before .before .pre in
+    (search needs, pair-apart _ _ _ _ _ (p .0) (omega arith), search needs, search needs)
 
 add-i : tie.Need-add-i Inv-loop μ-loop
-add-i c =
-    let r = c .before .before .before .before .before .before .before .before .before .before .before .before in
-    omega (arith, r .before .before .loop-test .taken)
+add-i c = search needs
 
 loop-less : tie.Need-loop-less Inv-loop μ-loop
-loop-less c = omega arith
+loop-less c = search needs
 
 loop-again : tie.Need-loop-again Inv-loop μ-loop
 loop-again c =
-    let w = c .before .before .before .before .before .before in
-    let e = w .before .before in
-    let t = e .before .before in
-    let s = t .before .before in
-    let h = s .before .before .before in
-    let p = h .before .before .pre in
-    pair-next _ _ _ _ (p .0) (p .1) (p .2) (s .before .before .loop-test .taken) (h .loop .inv) (s .get-dot .ensures) (t .get-dot2 .ensures) (e .before .blend-foreground .ensures) (e .blend-foreground2 .ensures) (w .set-dot .ensures) (c .before .before .set-dot2 .ensures)
+    let f = c .before .before in
+    let l = f .before .before .before in
+    let p = l .before .before .pre in
+    pair-next _ _ _ _ (p .0) (p .1) _ (l .loop .inv) (omega arith) (f .flip-some .ensures)
+
+add-flip-some-3 : tie.Need-add-flip-some-3 Inv-loop μ-loop
+add-flip-some-3 c = search needs
+
+add-flip-some-4 : tie.Need-add-flip-some-4 Inv-loop μ-loop
+add-flip-some-4 c = search needs
+
+sub-flip-some : tie.Need-sub-flip-some Inv-loop μ-loop
+sub-flip-some c = search needs
+
+flip-some-requires-2 : tie.Need-flip-some-requires-2 Inv-loop μ-loop
+flip-some-requires-2 c κs =
+    let p = c .before .before .before .before .pre in
+    (search needs, pair-apart _ _ _ _ _ (p .0) (omega arith), search needs, search needs)
 
 same-length : tie.Need-same-length Inv-loop μ-loop
-same-length c = omega arith
+same-length c = search needs
 
 returns : tie.Need-returns Inv-loop μ-loop
-returns c = pair-end _ _ _ _ (c .before .loop .inv) (c .loop-test .left)
+returns c =
+    let f = c .before .before in
+    let l = f .before .before .before in
+    let p = l .before .before .pre in
+    pair-end _ _ _ _ (pair-next _ _ _ _ (p .0) (p .1) _ (l .loop .inv) (omega arith) (f .flip-some2 .ensures)) (omega arith)
 
 pub flip-rows-spec : {M : Type 1} → statement M
 flip-rows-spec =
@@ -76,18 +73,16 @@ flip-rows-spec =
     Inv-loop
     μ-loop
     loop-holds
-    add-get-dot
-    get-dot-requires
-    add-get-dot-2
-    get-dot-requires-2
-    blend-foreground-requires
-    blend-foreground-requires-2
-    add-set-dot
-    set-dot-requires
-    add-set-dot-2
-    set-dot-requires-2
+    sub-loop
+    add-flip-some
+    add-flip-some-2
+    flip-some-requires
     add-i
     loop-less
     loop-again
+    add-flip-some-3
+    add-flip-some-4
+    sub-flip-some
+    flip-some-requires-2
     same-length
     returns)
