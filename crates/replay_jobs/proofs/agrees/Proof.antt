@@ -1,0 +1,95 @@
+-- `replay_jobs::agrees` meets its contract. Assumes nothing.
+use native.Mathlib.Omega.{arith}
+use lib.ListN.{length-take}
+use borrow.Author.Needs.{needs}
+use Rattle.replay_jobs.proofs.agrees.Statement.{statement}
+use Rattle.replay_jobs.proofs.agrees.Tie as tie
+
+returns : tie.Need-returns
+returns c = search needs
+
+number-at-requires : tie.Need-number-at-requires
+number-at-requires c κs = search needs
+
+cast-room : tie.Need-cast-room
+cast-room c = search needs
+
+number-at-requires-2 : tie.Need-number-at-requires-2
+number-at-requires-2 c κs = search needs
+
+cast-size : tie.Need-cast-size
+cast-size c = search needs
+
+mul-if2 : tie.Need-mul-if2
+mul-if2 c = search needs
+
+add-if2 : tie.Need-add-if2
+add-if2 c = search needs
+
+add-if2-2 : tie.Need-add-if2-2
+add-if2-2 c = search needs
+
+returns-2 : tie.Need-returns-2
+returns-2 c = search needs
+
+returns-3 : tie.Need-returns-3
+returns-3 c = search needs
+
+returns-4 : tie.Need-returns-4
+returns-4 c = search needs
+
+buffer-requires : tie.Need-buffer-requires
+buffer-requires c κs = search needs
+
+fresh-buffer-requires : tie.Need-fresh-buffer-requires
+fresh-buffer-requires c κs = search needs
+
+slice-aggregate-unpack : tie.Need-slice-aggregate-unpack
+slice-aggregate-unpack c = search needs
+
+unpack-requires : tie.Need-unpack-requires
+unpack-requires c κs = search needs
+
+array-share-prefix-job : tie.Need-array-share-prefix-job
+array-share-prefix-job c = search needs
+
+slice-aggregate-run-agrees : tie.Need-slice-aggregate-run-agrees
+slice-aggregate-run-agrees c = simp length-take (omega arith)
+
+array-borrow-prefix-buf : tie.Need-array-borrow-prefix-buf
+array-borrow-prefix-buf c = search needs
+
+slice-aggregate-run-agrees-2 : tie.Need-slice-aggregate-run-agrees-2
+slice-aggregate-run-agrees-2 c = simp length-take (omega arith)
+
+run-agrees-requires : tie.Need-run-agrees-requires
+run-agrees-requires c κs = search needs
+
+returns-5 : tie.Need-returns-5
+returns-5 c = search needs
+
+pub agrees-spec : {M : Type 1} → statement M
+agrees-spec =
+    tie.close
+    (tie.spec
+    returns
+    number-at-requires
+    cast-room
+    number-at-requires-2
+    cast-size
+    mul-if2
+    add-if2
+    add-if2-2
+    returns-2
+    returns-3
+    returns-4
+    buffer-requires
+    fresh-buffer-requires
+    slice-aggregate-unpack
+    unpack-requires
+    array-share-prefix-job
+    slice-aggregate-run-agrees
+    array-borrow-prefix-buf
+    slice-aggregate-run-agrees-2
+    run-agrees-requires
+    returns-5)
