@@ -58,7 +58,7 @@ module _ (pixels : List ℕ) (from : ℕ) where
       let all = and-both (allCrisp pixels from (i + n)) _ (sym (all-crisp-then (i + n) (count - (i + n))) ∙ rw more at e) in
       and-both (allCrisp pixels from i) _ (sym (all-crisp-then i n) ∙ all .0) .1
 
-  -- n more were looked at: one of them has to be mixed, or none, and what the rest says
+  -- n more were looked at: one of them is translucent, or none is; and what the rest says
   pub all-crisp-stop : (i n count : ℕ) {t : Bool} → i + n ≤ count → not t ≡ true → t ≡ allCrisp pixels (from + i) n → false ≡ allCrisp pixels from count
   all-crisp-stop i n count {t} h e et = go t (allCrisp pixels from count) e et refl
     where
