@@ -1,4 +1,4 @@
--- A run moved in pieces: one piece by way of another buffer, pieces from the first to the last, and from the last to the first. Each loop has a start, a next and an end. Assumes nothing.
+-- A run moved in pieces: one piece by way of another buffer, and pieces from the last to the first. That loop has a start, a next and an end. Assumes nothing.
 use mathlib.Core.Path.{_≡_, refl, ap, _∙_}
 use mathlib.Core.List.{List}
 use Prim.Native.Nat.{ℕ, _+_, _-_, _*_, _≤_, _<_}
@@ -7,7 +7,7 @@ use native.Mathlib.Omega.{arith}
 use lib.ListN.{length}
 use Rattle.colour.specs.declared.RGBA.{RGBA}
 use Rattle.dots.specs.Dots.{dotAt, change, within}
-use Rattle.dots.proofs.Laws.{length-change, change-picked, change-kept, change-by, run-none, run-more, run-back, within-yes, within-low, within-true}
+use Rattle.dots.proofs.Laws.{length-change, change-picked, change-kept, change-by, run-none, run-back, within-yes, within-low, within-true}
 
 -- ---- n dots from dot `at` on go to another buffer, and from there `by` on from where they were
 
@@ -30,35 +30,6 @@ module _ (by : ℕ) (l : List ℕ) where
 
   unwritten : (lo hi k : ℕ) {b : List ℕ} → b ≡ change (within lo hi) dot l → k - by < lo → dotAt b (k - by) ≡ dotAt l (k - by)
   unwritten lo hi k e h = ap (λ (x : List ℕ). dotAt x (k - by)) e ∙ change-kept _ dot l (k - by) (within-low lo hi (k - by) h)
-
--- ---- `count` dots from dot `at` on, no more than `by`: the first i are moved
-
-module _ (at by count : ℕ) (l : List ℕ) where
-  pub record FirstMoved (i : ℕ) (b : List ℕ) : Type 0 where
-    pub upto : i ≤ count
-    pub same : length b ≡ length l
-    pub sofar : b ≡ change (within (at + by) (at + by + i)) (dot by l) l
-
-  pub first-start : FirstMoved 0 l
-  first-start = record { upto = omega arith; same = refl; sofar = rw add-zero (run-none (at + by) (dot by l) l) }
-
-  -- the piece of n dots from dot at + i on
-  pub first-next : {i : ℕ} (n : ℕ) {b m : List ℕ} → FirstMoved i b → i + n ≤ count → count ≤ by
-      → m ≡ change (within (at + i + by) (at + i + by + n)) (λ k _. dotAt b (k - by)) b → FirstMoved (i + n) m
-  first-next {i} n {b} o h apart em =
-      let low : at + i + by ≡ at + by + i = omega arith in
-      let high : at + by + i + n ≡ at + by + (i + n) = omega arith in
-      record {
-        upto = h;
-        same = ap length em ∙ length-change _ _ b ∙ o .same;
-        sofar =
-            run-more (at + by) (at + by + i) (at + by + (i + n)) (λ k _. dotAt b (k - by)) (dot by l) l (omega arith) (omega arith)
-            (λ k u v d. unwritten by l (at + by) (at + by + i) k (o .sofar) (omega arith))
-            (o .sofar) (rw (low, high) at em);
-      }
-
-  pub first-end : {i : ℕ} {b : List ℕ} → FirstMoved i b → i ≡ count → b ≡ change (within (at + by) (at + by + count)) (dot by l) l
-  first-end o e = rw e at (o .sofar)
 
 -- ---- the first n dots: those from dot i on are moved
 

@@ -1,9 +1,9 @@
--- A rectangle of a picture that grows by a dot, and by a column, to whole rows. Assumes nothing.
+-- A rectangle of a picture that grows by a dot, by a row and by columns, to the whole picture. Assumes nothing.
 use mathlib.Core.Path.{_≡_, refl, sym, _∙_}
 use mathlib.Core.List.{List}
 use mathlib.Core.Bool.{Bool, true, false, _||_, and-or-distrib-left, and-or-distrib-right}
 use Prim.Native.Nat.{ℕ, zero, suc, _+_, _*_, _/_, _%_, _≤_, _<_}
-use native.Mathlib.Nat.{div-add-mod', mod-lt, add-mul, mul-zero, mul-le-mul-right, le-div-iff-mul-le, div-lt-iff-lt-mul}
+use native.Mathlib.Nat.{div-add-mod', mod-lt, add-mul, mul-zero, mul-le-mul-right, div-lt-iff-lt-mul}
 use native.Mathlib.Omega.{arith}
 use lib.ListN.{length}
 use lib.Dec.{eqb}
@@ -69,50 +69,59 @@ pub factor : (a b n : ℕ) → n < a * b → 0 < b
 factor a zero n h = absurd (omega (arith, mul-zero a))
 factor a (suc b) n h = omega arith
 
--- all columns are whole rows
-rect-whole : (wide r r' i : ℕ) → inRect wide 0 wide r r' i ≡ within (r * wide) (r' * wide) i
-rect-whole wide r r' i =
+-- all columns of the first rows are all their dots
+rect-whole : (wide r' i : ℕ) → inRect wide 0 wide 0 r' i ≡ within 0 (r' * wide) i
+rect-whole wide r' i =
     same-test _ _
     (λ e.
-    let b = rect-true wide 0 wide r r' i e in
+    let b = rect-true wide 0 wide 0 r' i e in
     let d = div-add-mod' i wide in
-    let low = mul-le-mul-right {m = r} {n = i / wide} wide (b .2) in
     let high = mul-le-mul-right {m = i / wide + 1} {n = r'} wide (omega arith) in
-    within-yes (r * wide) (r' * wide) i (omega arith) (omega (arith, add-mul (i / wide) 1 wide)))
+    within-yes 0 (r' * wide) i (omega arith) (omega (arith, add-mul (i / wide) 1 wide)))
     (λ e.
-    let b = within-true (r * wide) (r' * wide) i e in
+    let b = within-true 0 (r' * wide) i e in
     let pos : 0 < wide = factor r' wide i (b .1) in
-    rect-yes wide 0 wide r r' i (omega arith) (mod-lt i pos) (le-div-iff-mul-le pos .1 (b .0)) (div-lt-iff-lt-mul pos .1 (b .1)))
+    rect-yes wide 0 wide 0 r' i (omega arith) (mod-lt i pos) (omega arith) (div-lt-iff-lt-mul pos .1 (b .1)))
 
 -- ---- a change of a rectangle's dots: b is the buffer at the loop's head, m the buffer after the turn
 
 module _ (wide : ℕ) (g : ℕ → RGBA → RGBA) (l : List ℕ) where
-  pub column-none : (c r : ℕ) → l ≡ change (inRect wide c (c + 1) r r) g l
-  column-none c r =
-      change-none _ g l (λ i. off _ (λ e. let b = rect-true wide c (c + 1) r r i e in omega arith))
+  pub no-columns : (c r r' : ℕ) → l ≡ change (inRect wide c c r r') g l
+  no-columns c r r' =
+      change-none _ g l (λ i. off _ (λ e. let b = rect-true wide c c r r' i e in omega arith))
 
-  -- the dot of column c and row k more
-  pub column-next : (c r k : ℕ) → c < wide → r ≤ k → (k * wide + c) * 4 + 4 ≤ length l
-      → {b m : List ℕ} {d : RGBA} → b ≡ change (inRect wide c (c + 1) r k) g l → d ≡ g (k * wide + c) (dotAt l (k * wide + c)) → m ≡ setDot b (k * wide + c) d
-      → m ≡ change (inRect wide c (c + 1) r (k + 1)) g l
-  column-next c r k h u room eb ed em =
+  pub no-rows : (c c' r : ℕ) → l ≡ change (inRect wide c c' r r) g l
+  no-rows c c' r =
+      change-none _ g l (λ i. off _ (λ e. let b = rect-true wide c c' r r i e in omega arith))
+
+  -- the dot of row r and column k more
+  pub dot-more : (r c k : ℕ) → k < wide → c ≤ k → (r * wide + k) * 4 + 4 ≤ length l
+      → {b m : List ℕ} {d : RGBA} → b ≡ change (inRect wide c k r (r + 1)) g l → d ≡ g (r * wide + k) (dotAt l (r * wide + k)) → m ≡ setDot b (r * wide + k) d
+      → m ≡ change (inRect wide c (k + 1) r (r + 1)) g l
+  dot-more r c k h u room eb ed em =
       em ∙ rw (ed, eb)
-      (change-step _ _ g l (k * wide + c) room
-      (λ i. rect-rows wide c (c + 1) r k (k + 1) i u (omega arith) ∙ rw (rect-one wide c k i h)))
+      (change-step _ _ g l (r * wide + k) room
+      (λ i. rect-columns wide c k (k + 1) r (r + 1) i u (omega arith) ∙ rw (rect-one wide k r i h)))
 
-  pub strip-none : (r r' : ℕ) → l ≡ change (inRect wide 0 0 r r') g l
-  strip-none r r' =
-      change-none _ g l (λ i. off _ (λ e. let b = rect-true wide 0 0 r r' i e in omega arith))
-
-  -- the dots of column c more
-  pub strip-next : (c r r' : ℕ) → {b m : List ℕ} → b ≡ change (inRect wide 0 c r r') g l → m ≡ change (inRect wide c (c + 1) r r') g b
-      → m ≡ change (inRect wide 0 (c + 1) r r') g l
-  strip-next c r r' eb em =
+  -- the dots of row r more
+  pub row-more : (c c' r : ℕ) → {b m : List ℕ} → b ≡ change (inRect wide c c' 0 r) g l → m ≡ change (inRect wide c c' r (r + 1)) g b
+      → m ≡ change (inRect wide c c' 0 (r + 1)) g l
+  row-more c c' r eb em =
       em ∙ rw eb
-      (change-more _ _ _ g l (λ i. rect-columns wide 0 c (c + 1) r r' i (omega arith) (omega arith))
+      (change-more _ _ _ g l (λ i. rect-rows wide c c' 0 r (r + 1) i (omega arith) (omega arith))
       (λ i e.
-      let b = rect-true wide c (c + 1) r r' i e in
-      off _ (λ f. let d = rect-true wide 0 c r r' i f in omega arith)))
+      let b = rect-true wide c c' r (r + 1) i e in
+      off _ (λ f. let d = rect-true wide c c' 0 r i f in omega arith)))
 
-  pub strip-end : (r r' : ℕ) → change (inRect wide 0 wide r r') g l ≡ change (within (r * wide) (r' * wide)) g l
-  strip-end r r' = change-where _ _ g l (rect-whole wide r r')
+  -- the columns from c to c' more
+  pub columns-more : (c c' r' : ℕ) → c ≤ c' → {b m : List ℕ} → b ≡ change (inRect wide 0 c 0 r') g l → m ≡ change (inRect wide c c' 0 r') g b
+      → m ≡ change (inRect wide 0 c' 0 r') g l
+  columns-more c c' r' u eb em =
+      em ∙ rw eb
+      (change-more _ _ _ g l (λ i. rect-columns wide 0 c c' 0 r' i (omega arith) u)
+      (λ i e.
+      let b = rect-true wide c c' 0 r' i e in
+      off _ (λ f. let d = rect-true wide 0 c 0 r' i f in omega arith)))
+
+  pub all-columns : (r' : ℕ) → change (inRect wide 0 wide 0 r') g l ≡ change (within 0 (r' * wide)) g l
+  all-columns r' = change-where _ _ g l (rect-whole wide r')

@@ -21,28 +21,14 @@ pub fn move_run(buf: &mut [u8], at: usize, by: usize, count: usize)
 }
 
 // The dots of a block.
-const BLOCK: usize = 1024;
+pub(crate) const BLOCK: usize = 16384;
 
 // A block of dots, `by` on. The compiler leaves the array out and calls the C library for one move.
-fn move_block(buf: &mut [u8], at: usize, by: usize)
-    requires { ⌜ (at + by + 1024) * 4 ≤ length (now buf) ⌝ }
-    ensures { λ _. ⌜ now (buf .exit) ≡ change (within (at + by) (at + by + 1024)) (λ i _. dotAt (now (buf .entry)) (i - by)) (now (buf .entry)) ⌝ }
+pub(crate) fn move_block(buf: &mut [u8], at: usize, by: usize)
+    requires { ⌜ (at + by + 16384) * 4 ≤ length (now buf) ⌝ }
+    ensures { λ _. ⌜ now (buf .exit) ≡ change (within (at + by) (at + by + 16384)) (λ i _. dotAt (now (buf .entry)) (i - by)) (now (buf .entry)) ⌝ }
 {
-    let mut block = [0u8; 4096];
+    let mut block = [0u8; 65536];
     copy_run(buf, at, &mut block, 0, BLOCK);
     copy_run(&block, 0, buf, at + by, BLOCK);
-}
-
-// Dots that go to where none of them lies, block by block, from the first to the last, and then those
-// that are left.
-pub(crate) fn move_apart(buf: &mut [u8], at: usize, by: usize, count: usize)
-    requires { ⌜ ((at + by + count) * 4 ≤ length (now buf)) × (count ≤ by) ⌝ }
-    ensures { λ _. ⌜ now (buf .exit) ≡ change (within (at + by) (at + by + count)) (λ i _. dotAt (now (buf .entry)) (i - by)) (now (buf .entry)) ⌝ }
-{
-    let mut i = 0;
-    while count - i >= BLOCK {
-        move_block(buf, at + i, by);
-        i += BLOCK;
-    }
-    move_run(buf, at + i, by, count - i);
 }

@@ -35,57 +35,57 @@ fn along(n: usize, i: usize, back: bool) -> usize
     i
 }
 
-// `rows` dots of column c, from row r on, of a quarter turn to the right or to the left: they stood
-// along one row of the source.
-fn turn_column(
+// `columns` dots of row r, from column c on, of a quarter turn to the right or to the left: they stood
+// along one column of the source.
+fn turn_row(
     src: &[u8],
     w: usize,
     h: usize,
     left: bool,
-    c: usize,
     r: usize,
-    rows: usize,
+    c: usize,
+    columns: usize,
     out: &mut [u8],
 )
-    requires { ⌜ (w * h * 4 ≤ length (now src)) × (w * h * 4 ≤ length (now out)) × (c < h) × (r + rows ≤ w) ⌝ }
-    ensures { λ _. ⌜ now (out .exit) ≡ change (inRect h c (c + 1) r (r + rows)) (turnedDot (quarter left) w h (now (src .entry))) (now (out .entry)) ⌝ }
+    requires { ⌜ (w * h * 4 ≤ length (now src)) × (w * h * 4 ≤ length (now out)) × (r < w) × (c + columns ≤ h) ⌝ }
+    ensures { λ _. ⌜ now (out .exit) ≡ change (inRect h c (c + columns) r (r + 1)) (turnedDot (quarter left) w h (now (src .entry))) (now (out .entry)) ⌝ }
 {
-    let y = along(h, c, !left);
-    let end = r + rows;
-    let mut k = r;
+    let x = along(w, r, left);
+    let end = c + columns;
+    let mut k = c;
     while k < end {
-        let x = along(w, k, left);
+        let y = along(h, k, !left);
         let d = get_dot(src, y * w + x);
-        set_dot(out, k * h + c, d);
+        set_dot(out, r * h + k, d);
         k += 1;
     }
 }
 
-// `rows` rows from row r on, column by column, so that the dots of one source row are read together.
-fn turn_columns(src: &[u8], w: usize, h: usize, left: bool, r: usize, rows: usize, out: &mut [u8])
-    requires { ⌜ (w * h * 4 ≤ length (now src)) × (w * h * 4 ≤ length (now out)) × (r + rows ≤ w) ⌝ }
-    ensures { λ _. ⌜ now (out .exit) ≡ change (within (r * h) ((r + rows) * h)) (turnedDot (quarter left) w h (now (src .entry))) (now (out .entry)) ⌝ }
+// `columns` columns from column c on, row by row, so that each of their source rows is read along.
+fn turn_rows(src: &[u8], w: usize, h: usize, left: bool, c: usize, columns: usize, out: &mut [u8])
+    requires { ⌜ (w * h * 4 ≤ length (now src)) × (w * h * 4 ≤ length (now out)) × (c + columns ≤ h) ⌝ }
+    ensures { λ _. ⌜ now (out .exit) ≡ change (inRect h c (c + columns) 0 w) (turnedDot (quarter left) w h (now (src .entry))) (now (out .entry)) ⌝ }
 {
-    let mut c = 0;
-    while c < h {
-        turn_column(src, w, h, left, c, r, rows, out);
-        c += 1;
+    let mut r = 0;
+    while r < w {
+        turn_row(src, w, h, left, r, c, columns, out);
+        r += 1;
     }
 }
 
-// The rows of a strip.
-const STRIP: usize = 8;
+// The columns of a strip: a line of a cache has as many dots.
+const STRIP: usize = 16;
 
 fn turn_quarter(src: &[u8], w: usize, h: usize, left: bool, out: &mut [u8])
     requires { ⌜ (w * h * 4 ≤ length (now src)) × (w * h * 4 ≤ length (now out)) ⌝ }
     ensures { λ _. ⌜ now (out .exit) ≡ turnedOn (quarter left) w h (now (src .entry)) (now (out .entry)) ⌝ }
 {
-    let mut r = 0;
-    while w - r >= STRIP {
-        turn_columns(src, w, h, left, r, STRIP, out);
-        r += STRIP;
+    let mut c = 0;
+    while h - c >= STRIP {
+        turn_rows(src, w, h, left, c, STRIP, out);
+        c += STRIP;
     }
-    turn_columns(src, w, h, left, r, w - r, out);
+    turn_rows(src, w, h, left, c, h - c, out);
 }
 
 // Each quarter turn by itself, so that the compiler makes a loop for it that does not ask which it is.

@@ -1,4 +1,4 @@
--- `moves::turning::turn_column` meets its contract. Assumes nothing.
+-- `moves::turning::turn_row` meets its contract. Assumes nothing.
 use mathlib.Core.Path.{_∙_}
 use borrow.Author.Needs.{needs}
 use Prim.Native.Nat.{_+_, _-_, _*_, _≤_}
@@ -8,34 +8,34 @@ use denote.Ref.{now}
 use Rattle.moves.specs.Moves.{turnedDot}
 use Rattle.moves.specs.Steps.{quarter}
 use Rattle.moves.proofs.Turns.{along-reads, quarter-dot}
-use Rattle.moves.proofs.Strips.{Down, down-start, down-room, down-next, down-end}
-use Rattle.moves.proofs.turning.turn_column.Statement.{statement}
-use Rattle.moves.proofs.turning.turn_column.Tie as tie
+use Rattle.moves.proofs.Strips.{Across, across-start, across-room, across-next, across-end}
+use Rattle.moves.proofs.turning.turn_row.Statement.{statement}
+use Rattle.moves.proofs.turning.turn_row.Tie as tie
 
 abbrev Inv-loop : tie.InvT-loop
-Inv-loop src w h left c r rows out₀ y end k₀ out k = Down h w (turnedDot (quarter left) w h src) out₀ c r rows k out
+Inv-loop src w h left r c columns out₀ x end k₀ out k = Across h w (turnedDot (quarter left) w h src) out₀ r c columns k out
 
 abbrev μ-loop : tie.MeasureT-loop
-μ-loop src w h left c r rows out₀ y end k₀ out k = end - k
+μ-loop src w h left r c columns out₀ x end k₀ out k = end - k
 
 -- the dot lies in the source, and its place in the output
 read-room : (c : tie.After-along2 Inv-loop μ-loop)
     → let l = c .before .before in
     let a = l .before .before .before .before .args in
-    (l .before .along .result * a .w + c .along2 .result) * 4 + 4 ≤ length (now (a .src))
+    (c .along2 .result * a .w + l .before .along .result) * 4 + 4 ≤ length (now (a .src))
 read-room c =
     let l = c .before .before in
     let p = l .before .before .before .before .pre in
-    along-reads _ _ _ _ _ _ (p .2) (omega (arith, p .3)) (c .along2 .ensures) (l .before .along .ensures) (p .0)
+    along-reads _ _ _ _ _ _ (omega (arith, p .3)) (p .2) (l .before .along .ensures) (c .along2 .ensures) (p .0)
 
 write-room : (c : tie.After-set-dot-arg Inv-loop μ-loop)
     → let l = c .before .before .before .before in
     let a = l .before .before .before .before .args in
-    (l .loop .k * a .h + a .c) * 4 + 4 ≤ length (l .loop .out)
+    (a .r * a .h + l .loop .k) * 4 + 4 ≤ length (l .loop .out)
 write-room c =
     let l = c .before .before .before .before in
     let p = l .before .before .before .before .pre in
-    down-room _ _ _ _ _ _ _ (l .loop .inv) (c .before .before .before .loop-test .taken) (p .2) (p .3) (p .1)
+    across-room _ _ _ _ _ _ _ (l .loop .inv) (c .before .before .before .loop-test .taken) (p .2) (p .3) (p .1)
 
 along-requires : tie.Need-along-requires Inv-loop μ-loop
 along-requires c κs = search needs
@@ -44,7 +44,7 @@ add-end : tie.Need-add-end Inv-loop μ-loop
 add-end c = search needs
 
 loop-holds : tie.Need-loop-holds Inv-loop μ-loop
-loop-holds c = down-start _ _ _ _ _ _ _
+loop-holds c = across-start _ _ _ _ _ _ _
 
 along-requires-2 : tie.Need-along-requires-2 Inv-loop μ-loop
 along-requires-2 c κs = search needs
@@ -80,17 +80,17 @@ loop-again c =
     let x = g .before in
     let l = x .before .before in
     let p = l .before .before .before .before .pre in
-    down-next _ _ _ _ _ _ _ (l .loop .inv) (x .before .loop-test .taken) (p .2) (p .3) (p .1)
-    (g .get-dot .ensures ∙ quarter-dot _ _ _ _ _ _ (p .2) (x .along2 .ensures) (l .before .along .ensures) _) (s .set-dot .ensures)
+    across-next _ _ _ _ _ _ _ (l .loop .inv) (x .before .loop-test .taken) (p .2) (p .3) (p .1)
+    (g .get-dot .ensures ∙ quarter-dot _ _ _ _ _ _ (omega (arith, p .3)) (l .before .along .ensures) (x .along2 .ensures) _) (s .set-dot .ensures)
 
 same-length : tie.Need-same-length Inv-loop μ-loop
 same-length c = search needs
 
 returns : tie.Need-returns Inv-loop μ-loop
-returns c = down-end _ _ _ _ _ _ _ (c .before .loop .inv) (c .loop-test .left)
+returns c = across-end _ _ _ _ _ _ _ (c .before .loop .inv) (c .loop-test .left)
 
-pub turn-column-spec : {M : Type 1} → statement M
-turn-column-spec =
+pub turn-row-spec : {M : Type 1} → statement M
+turn-row-spec =
     tie.close
     (tie.spec
     Inv-loop
