@@ -11,6 +11,7 @@ use colour::RGBA;
 use dots::TABLE_DOTS;
 use dots::covers;
 use dots::draw_run;
+use dots::fill_run;
 use dots::mix_factors;
 use dots::mix_run;
 use dots::mix_terms;
@@ -18,7 +19,7 @@ use dots::multiply_run;
 use dots::multiply_table;
 use dots::needs_tables;
 
-// Row by row, with nothing made beforehand.
+// For few dots: nothing is made beforehand.
 fn draw_rows(
     buf: &mut [u8],
     wide: usize,
@@ -35,6 +36,18 @@ fn draw_rows(
     let mut j = 0;
     while j < h {
         draw_run(buf, (y + j) * wide + x, w, multiply, c);
+        j += 1;
+    }
+}
+
+// An opaque colour that is blended: that it covers is told once for the area, and not for each row.
+fn fill_rows(buf: &mut [u8], wide: usize, x: usize, y: usize, w: usize, h: usize, c: RGBA)
+    requires { ⌜ Fits wide x y w h (length (now buf)) ⌝ }
+    ensures { λ _. ⌜ now (buf .exit) ≡ areaOn wide x y w h (λ _ _ _. c) (now (buf .entry)) ⌝ }
+{
+    let mut j = 0;
+    while j < h {
+        fill_run(buf, (y + j) * wide + x, w, c);
         j += 1;
     }
 }
@@ -130,7 +143,7 @@ pub fn draw_area(
         return;
     }
     if covers(c, multiply) {
-        draw_rows(buf, wide, x, y, w, h, c, multiply);
+        fill_rows(buf, wide, x, y, w, h, c);
         return;
     }
     let m = mix_factors(c, multiply);

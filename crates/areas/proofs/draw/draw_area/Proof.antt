@@ -1,8 +1,8 @@
 -- `areas::draw::draw_area` meets its contract. Assumes nothing.
 use native.Mathlib.Omega.{arith}
 use mathlib.Core.Path.{sym, _∙_}
-use Rattle.dots.proofs.Laws.{drawn-none, tables-multiply, no-tables}
-use Rattle.areas.proofs.Laws.{area-idle}
+use Rattle.dots.proofs.Laws.{drawn-none, tables-multiply, no-tables, covers-full}
+use Rattle.areas.proofs.Laws.{area-idle, area-by}
 use borrow.Author.Needs.{needs}
 use Rattle.areas.proofs.draw.draw_area.Statement.{statement}
 use Rattle.areas.proofs.draw.draw_area.Tie as tie
@@ -28,14 +28,17 @@ returns-2 c = search needs
 covers-requires : tie.Need-covers-requires
 covers-requires c κs = search needs
 
-draw-rows-requires : tie.Need-draw-rows-requires
-draw-rows-requires c κs = search needs
+fill-rows-requires : tie.Need-fill-rows-requires
+fill-rows-requires c κs = search needs
 
 same-length-2 : tie.Need-same-length-2
 same-length-2 c = search needs
 
 returns-3 : tie.Need-returns-3
-returns-3 c = search needs
+returns-3 c =
+    let f = c .before .before .before .before in
+    let a = f .before .before .before .before .before .before .before .args in
+    c .before .before .fill-rows .ensures ∙ area-by _ _ _ _ _ _ (a .buf .now) _ (λ i j u v. covers-full (a .multiply) (a .c) _ (sym (f .before .covers .ensures) ∙ f .if3 .taken))
 
 mix-factors-requires : tie.Need-mix-factors-requires
 mix-factors-requires c κs = search needs
@@ -65,7 +68,7 @@ draw-area-spec =
     same-length
     returns-2
     covers-requires
-    draw-rows-requires
+    fill-rows-requires
     same-length-2
     returns-3
     mix-factors-requires
