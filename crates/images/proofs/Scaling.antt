@@ -19,7 +19,7 @@ use Rattle.bits.specs.Bits.{rowBytes, Shown, bitsOn, alphaLanded}
 use Rattle.images.specs.Formats.{alphaOf, bytesOf}
 use Rattle.images.specs.Stretching.{pixelOf}
 use Rattle.bits.specs.Bits.{landed}
-use Rattle.images.specs.Steps.{Sound, Above, repeated, sourcePixel, rowOn, pictureOn}
+use Rattle.images.specs.Steps.{Sound, Above, repeated, sourcePixel, pictureRowOn, pictureOn}
 use Rattle.images.proofs.Sides.{sides}
 use Rattle.images.proofs.Places.{line-fits, row-in-data}
 
@@ -71,8 +71,8 @@ module _ (s : Source) (bytes : List ℕ) (blend : Bool) (at j : ℕ) (l : List �
   pub across-at : {x i k : ℕ} {out : List ℕ} → i ≡ k → Across x i out → Across x k out
   across-at e a = rw e at a
 
-  pub across-end : {x i : ℕ} {out : List ℕ} → Across x i out → s .w ≤ x → out ≡ rowOn at (s .w * s .fx) blend (sourcePixel s bytes) j l
-  unfolding rowOn
+  pub across-end : {x i : ℕ} {out : List ℕ} → Across x i out → s .w ≤ x → out ≡ pictureRowOn at (s .w * s .fx) blend (sourcePixel s bytes) j l
+  unfolding pictureRowOn
   across-end {x} {i} a h =
       let e : x ≡ s .w = omega (arith, a .upto) in
       let p : i ≡ at + s .w * s .fx = a .place ∙ rw e in
@@ -102,8 +102,8 @@ module _ (W H : ℕ) (blend : Bool) (pixel : ℕ → ℕ → RGBA) (l : List ℕ
   pub down-room : {j at : ℕ} {out : List ℕ} → Down j at out → j < H → W * H * 4 ≤ length l → (at + W) * 4 ≤ length out
   down-room {j} a h r = omega (arith, a .place, a .same, line-fits W H j h)
 
-  pub down-next : {j at : ℕ} {out out' : List ℕ} → Down j at out → j < H → out' ≡ rowOn at W blend pixel j out → Down (j + 1) (at + W) out'
-  unfolding rowOn
+  pub down-next : {j at : ℕ} {out out' : List ℕ} → Down j at out → j < H → out' ≡ pictureRowOn at W blend pixel j out → Down (j + 1) (at + W) out'
+  unfolding pictureRowOn
   down-next {j} {at} {out} {out'} a h eo =
       record {
         place = omega (arith, a .place, add-mul j 1 W);
@@ -175,8 +175,8 @@ module _ (s : Source) (bytes : List ℕ) (l : List ℕ) where
 -- the row above moved on is row j
 pub repeat-is-row : (s : Source) (bytes : List ℕ) (blend : Bool) (at j : ℕ) (out : List ℕ) → Above s bytes blend at j out → repeated j (s .fy) blend ≡ true → {m : List ℕ}
     → m ≡ change (within (at - s .w * s .fx + s .w * s .fx) (at - s .w * s .fx + s .w * s .fx + s .w * s .fx)) (λ i _. dotAt out (i - s .w * s .fx)) out
-    → m ≡ rowOn at (s .w * s .fx) blend (sourcePixel s bytes) j out
-unfolding rowOn landed
+    → m ≡ pictureRowOn at (s .w * s .fx) blend (sourcePixel s bytes) j out
+unfolding pictureRowOn landed
 repeat-is-row s bytes blend at j out a e em =
     let o : at - s .w * s .fx + s .w * s .fx ≡ at = omega (arith, a .room e) in
     em ∙ rw (o, is-repeated j (s .fy) blend e .0) (change-by _ _ _ out (λ i w. let b = within-true at (at + s .w * s .fx) i w in a .dots e i (b .0) (b .1)))
@@ -190,6 +190,6 @@ pub bits-shown : (s : Source) {n j row : ℕ} → Sound s n → j < s .h * s .fy
 bits-shown s o hj e er i h = omega (arith, bits-in-data s o hj e er, div-lt-iff-lt-mul (o .fx) .1 h)
 
 pub bits-is-row : (s : Source) (bytes : List ℕ) (blend : Bool) (at j : ℕ) (out : List ℕ) → s .format ≡ Bits → {row : ℕ} → row ≡ rowBytes (s .w)
-    → {m : List ℕ} → m ≡ bitsOn (alphaLanded blend (s .color)) bytes (j / s .fy * row) (s .fx) at (s .w * s .fx) out → m ≡ rowOn at (s .w * s .fx) blend (sourcePixel s bytes) j out
-unfolding rowOn sourcePixel pixelOf alphaOf bitsOn
+    → {m : List ℕ} → m ≡ bitsOn (alphaLanded blend (s .color)) bytes (j / s .fy * row) (s .fx) at (s .w * s .fx) out → m ≡ pictureRowOn at (s .w * s .fx) blend (sourcePixel s bytes) j out
+unfolding pictureRowOn sourcePixel pixelOf alphaOf bitsOn
 bits-is-row s bytes blend at j out e er em = em ∙ rw (er, e)

@@ -33,8 +33,8 @@ unfoldable pub sourcePixel : Source → List ℕ → ℕ → ℕ → RGBA
 sourcePixel s bytes = pixelOf (s .format) bytes (s .w) (s .h) (s .fx) (s .fy) (s .color)
 
 -- row j of a picture W dots wide, from dot `at` on
-unfoldable pub rowOn : ℕ → ℕ → Bool → (ℕ → ℕ → RGBA) → ℕ → List ℕ → List ℕ
-rowOn at W blend pixel j out = change (within at (at + W)) (λ i d. landed blend (pixel (i - at) j) d) out
+unfoldable pub pictureRowOn : ℕ → ℕ → Bool → (ℕ → ℕ → RGBA) → ℕ → List ℕ → List ℕ
+pictureRowOn at W blend pixel j out = change (within at (at + W)) (λ i d. landed blend (pixel (i - at) j) d) out
 
 -- a picture of W by H dots from the first dot on
 unfoldable pub pictureOn : ℕ → ℕ → Bool → (ℕ → ℕ → RGBA) → List ℕ → List ℕ

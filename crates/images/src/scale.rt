@@ -5,7 +5,7 @@ ghost use Prim.Native.Nat.{_+_, _-_, _*_, _/_, _≤_, _<_};
 ghost use lib.ListN.{length};
 ghost use Rattle.dots.specs.Dots.{dotAt, setDot, change, within};
 ghost use Rattle.bits.specs.Bits.{landed};
-ghost use Rattle.images.specs.Steps.{Sound, inColor, repeated, sourcePixel, Above, rowOn, pictureOn};
+ghost use Rattle.images.specs.Steps.{Sound, inColor, repeated, sourcePixel, Above, pictureRowOn, pictureOn};
 use super::formats::Format;
 use super::formats::alpha_at;
 use super::formats::row_bytes;
@@ -63,7 +63,7 @@ fn land_run(out: &mut [u8], at: usize, count: usize, pixel: RGBA, blend: bool)
 fn plain_pixels(out: &mut [u8], at: usize, data: &[u8], source: Source, j: usize, blend: bool)
     requires { ⌜ Sound source (length (now «data»)) × (source .fx ≡ 1) ⌝ }
     requires { ⌜ (j < source .h * source .fy) × ((at + source .w * source .fx) * 4 ≤ length (now out)) ⌝ }
-    ensures { λ _. ⌜ now (out .exit) ≡ rowOn at (source .w * source .fx) blend (sourcePixel source (now («data» .entry))) j (now (out .entry)) ⌝ }
+    ensures { λ _. ⌜ now (out .exit) ≡ pictureRowOn at (source .w * source .fx) blend (sourcePixel source (now («data» .entry))) j (now (out .entry)) ⌝ }
 {
     let format = source.format;
     let w = source.w;
@@ -83,7 +83,7 @@ fn plain_pixels(out: &mut [u8], at: usize, data: &[u8], source: Source, j: usize
 fn scale_pixels(out: &mut [u8], at: usize, data: &[u8], source: Source, j: usize, blend: bool)
     requires { ⌜ Sound source (length (now «data»)) ⌝ }
     requires { ⌜ (j < source .h * source .fy) × ((at + source .w * source .fx) * 4 ≤ length (now out)) ⌝ }
-    ensures { λ _. ⌜ now (out .exit) ≡ rowOn at (source .w * source .fx) blend (sourcePixel source (now («data» .entry))) j (now (out .entry)) ⌝ }
+    ensures { λ _. ⌜ now (out .exit) ≡ pictureRowOn at (source .w * source .fx) blend (sourcePixel source (now («data» .entry))) j (now (out .entry)) ⌝ }
 {
     let format = source.format;
     let w = source.w;
@@ -127,7 +127,7 @@ fn draw_row(out: &mut [u8], at: usize, data: &[u8], source: Source, j: usize, bl
     requires { ⌜ Sound source (length (now «data»)) ⌝ }
     requires { ⌜ (j < source .h * source .fy) × ((at + source .w * source .fx) * 4 ≤ length (now out)) ⌝ }
     requires { ⌜ Above source (now «data») blend at j (now out) ⌝ }
-    ensures { λ _. ⌜ now (out .exit) ≡ rowOn at (source .w * source .fx) blend (sourcePixel source (now («data» .entry))) j (now (out .entry)) ⌝ }
+    ensures { λ _. ⌜ now (out .exit) ≡ pictureRowOn at (source .w * source .fx) blend (sourcePixel source (now («data» .entry))) j (now (out .entry)) ⌝ }
 {
     if repeats(j, source.fy, blend) {
         let wide = source.w * source.fx;
