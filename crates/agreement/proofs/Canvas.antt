@@ -1,5 +1,5 @@
 -- A command of a run and the canvas operation of it are the same. Assumes nothing.
-use Prim.Native.Nat.{ℕ, _+_, _-_, _*_, _/_, _%_, _^_, _≤_, _<_, min, max}
+use Prim.Native.Nat.{ℕ, _+_, _-_, _*_, _/_, _%_, _^_, _≤_, _<_, max}
 use mathlib.Core.Path.{_≡_, refl, ap, sym, _∙_}
 use mathlib.Core.List.{List}
 use mathlib.Core.Bool.{Bool, true, false, not, _||_}
@@ -33,13 +33,14 @@ use Rattle.entries.specs.Entries.{multiplies, rectangleEntry, imageEntry, image
 use Rattle.entries.proofs.Drawing.{entry-rows}
 use Rattle.thermal_image.specs.declared.ThermalImage.{ThermalImage}
 use Rattle.refusals.specs.Refusals.{first, unsound, tallRefusal, roomRefusal, marginRefusal}
-use Rattle.thermal_image.specs.Canvas.{canvas, sized, finished, answered, written, papered, lowered, lowerOn}
-use Rattle.refusals.proofs.Codes.{first-some, first-none, first-done, rows-some}
+use Rattle.thermal_image.specs.Canvas.{canvas, sized, finished, papered}
+use Rattle.thermal_image.proofs.Laws.{margin-record, margin-lowered}
+use Rattle.refusals.proofs.Codes.{first-some, first-none, first-done}
 use Rattle.places.specs.Places.{tallAfter, sideRefusal, emptyRefusal, acrossRefusal, resultRefusal, putRefusal, rectRefusal, flipTall, flipRefusal}
-use Rattle.drawing.specs.Drawing.{grownTo, placed, pixelsDrawn, putOn, flipOn}
-use Rattle.places.proofs.Codes.{crop-min, crop-grown, tall-grown}
+use Rattle.drawing.specs.Drawing.{pixelsDrawn, putOn}
+use Rattle.places.proofs.Codes.{tall-grown, flip-tall}
 use Rattle.places.proofs.Equal.{pixel-in, rect-grown}
-use Rattle.drawing.proofs.Laws.{rect-record, rect-placed, put-record, put-placed, flip-record}
+use Rattle.drawing.proofs.Laws.{placed-grown, rect-record, rect-placed, put-record, put-placed, flip-record, flip-placed}
 use Rattle.runs.specs.Steps as steps
 use Rattle.agreement.specs.Canvas.{dataOf, imageOutcome, outcome, Inside, pixelBytes, OnCanvas, CommandsOnCanvas}
 
@@ -67,8 +68,8 @@ module _ (s : List ℕ) (W H : ℕ) (paper : RGBA) (l : List ℕ) (some : 1 ≤ 
 
   -- ---- a put of all its pixels
 
-  put-number : (x y w h : ℕ) → rectRefusal t x y w h (length l) ≡ first (dropping.putRefusal W H x y w h) (roomRefusal W (max H (y + h)) (length l))
-  unfolding dropping.putRefusal sideRefusal resultRefusal
+  put-number : (x y w h : ℕ) → rectRefusal t x y w h (length l) ≡ first (dropping.putReason W H x y w h) (roomRefusal W (max H (y + h)) (length l))
+  unfolding dropping.putReason sideRefusal resultRefusal
   put-number x y w h =
       rect-grown t refl x y w h (length l) sound
       ∙ sym (step (ltb limit w || ltb limit h) _ _ (λ e. omega arith) ∙ ap (first (sideRefusal w h)) (step (leb W x) _ _ (λ e. omega arith)))
@@ -79,12 +80,7 @@ module _ (s : List ℕ) (W H : ℕ) (paper : RGBA) (l : List ℕ) (some : 1 ≤ 
   put-answer : (x y w h : ℕ) → finished (sized t W (tallAfter t x y w h)) ≡ finished (canvas W (max H (y + h)) true paper)
   put-answer x y w h = rw (tall-grown t refl x y w h) refl
 
-  -- an area of a canvas that has grown: an operation's, and an entry's
-  placed-area : (x y w h : ℕ) (f : ℕ → ℕ → RGBA → RGBA) → x < W
-      → placed t x y w h (tallAfter t x y w h) f l ≡ areaOn W x y (min w (W - x)) h f (papered W H (max H (y + h)) paper l)
-  unfolding placed grownTo
-  placed-area x y w h f b = rw (tall-grown t refl x y w h, crop-grown t refl x y w h, crop-min t x y w b)
-
+  -- an entry is an area of a canvas that has grown
   entry-area : (e : Entry)
       → steps.placedOn s W paper H e l
       ≡ areaOn W (e .x) (e .y) (e .w) (e .h) (λ i j d. drawn (multiplies (e .mode)) (entryPixel s e i j) d) (papered W H (max H (e .y + e .h)) paper l)
@@ -98,13 +94,13 @@ module _ (s : List ℕ) (W H : ℕ) (paper : RGBA) (l : List ℕ) (some : 1 ≤ 
   -- ---- a rectangle
 
   rectangle-same : (out : List ℕ) (x y w h : ℕ) (c : RGBA) (mode : ℕ) → Same out (Rectangle x y w h c mode)
-  unfolding outcome dropping.refusal dropping.grown steps.obeyedOn rectangleEntry entryPixel
+  unfolding outcome dropping.reasonOf dropping.heightAfter steps.obeyedOn rectangleEntry entryPixel
   rectangle-same out x y w h c mode =
       record {
         number = put-number x y w h;
         answer = λ e. rect-record t x y w h (length l) e ∙ put-answer x y w h;
         bytes = λ e.
-            rect-placed (multiplies mode) t x y w h l c e ∙ placed-area x y w h _ (put-on x y w h e) ∙ sym (entry-area (rectangleEntry W x y w h c mode));
+            rect-placed (multiplies mode) t x y w h l c e ∙ placed-grown t refl x y w h _ l (put-on x y w h e) ∙ sym (entry-area (rectangleEntry W x y w h c mode));
       }
 
   -- ---- a margin
@@ -114,20 +110,25 @@ module _ (s : List ℕ) (W H : ℕ) (paper : RGBA) (l : List ℕ) (some : 1 ≤ 
   margin-number m = ap (λ (k : ℕ). first k (roomRefusal W (H + m) (length l))) (sym (first-none _ _ sound))
 
   margin-same : (out : List ℕ) (m : ℕ) → Same out (Margin m)
-  unfolding outcome dropping.refusal dropping.grown lowered answered lowerOn written steps.obeyedOn
-  margin-same out m = record { number = margin-number m; answer = λ e. rw (e, rows-some W (H + m) some) refl; bytes = λ e. rw e refl }
+  unfolding outcome dropping.reasonOf dropping.heightAfter steps.obeyedOn
+  margin-same out m = record { number = margin-number m; answer = λ e. margin-record t m (length l) e some; bytes = λ e. margin-lowered t m l e }
 
   -- ---- a flip
 
-  flip-number : (x y w h : ℕ) → flipRefusal t x y w h (length l) ≡ first (dropping.flipRefusal W H x y w h) (roomRefusal W (max H (y + h)) (length l))
-  unfolding flipRefusal flipTall emptyRefusal acrossRefusal dropping.flipRefusal resultRefusal
+  flip-number : (x y w h : ℕ) → flipRefusal t x y w h (length l) ≡ first (dropping.flipReason W H x y w h) (roomRefusal W (max H (y + h)) (length l))
+  unfolding flipRefusal flipTall emptyRefusal acrossRefusal dropping.flipReason resultRefusal
   flip-number x y w h =
       sym (first-none _ _ sound)
       ∙ sym (step (eqb w 0 || eqb h 0) _ _ (λ e. omega arith) ∙ ap (first (emptyRefusal w h)) (step (ltb W (x + w)) _ _ (λ e. omega arith)))
 
   flip-same : (out : List ℕ) (x y w h : ℕ) → Same out (Flip x y w h)
-  unfolding outcome dropping.refusal dropping.grown flipTall flipOn written grownTo steps.obeyedOn
-  flip-same out x y w h = record { number = flip-number x y w h; answer = λ e. flip-record t x y w h (length l) e; bytes = λ e. rw e refl }
+  unfolding outcome dropping.reasonOf dropping.heightAfter steps.obeyedOn
+  flip-same out x y w h =
+      record {
+        number = flip-number x y w h;
+        answer = λ e. flip-record t x y w h (length l) e ∙ rw (flip-tall t y h) refl;
+        bytes = λ e. flip-placed t x y w h l e;
+      }
 
   -- ---- an image: decoded, then put
 
@@ -163,8 +164,8 @@ module _ (s : List ℕ) (W H : ℕ) (paper : RGBA) (l : List ℕ) (some : 1 ≤ 
         by false = refl
 
     -- the job's order is the decoding's, and then the put's
-    image-order : dropping.imageRefusal W H x y w h (factor sx) (factor sy) size ≡ first decoding (dropping.putRefusal W H x y wide tall)
-    unfolding refusal lacksRoom dropping.imageRefusal first
+    image-order : dropping.imageReason W H x y w h (factor sx) (factor sy) size ≡ first decoding (dropping.putReason W H x y wide tall)
+    unfolding refusal lacksRoom dropping.imageReason first
     image-order =
         rw (bytes-length, long, le-ltb (4 * (wide * tall)) (4 * (wide * tall)) (omega arith)) (by (isLarge w h (factor sx) (factor sy)) (not (eqb size (bytesOf Bits w h))) _)
       where
@@ -173,10 +174,10 @@ module _ (s : List ℕ) (W H : ℕ) (paper : RGBA) (l : List ℕ) (some : 1 ≤ 
         by false true p = refl
         by false false p = refl
 
-    image-refusal : decoding ≡ done → dropping.imageRefusal W H x y w h (factor sx) (factor sy) size ≡ dropping.putRefusal W H x y wide tall
-    image-refusal e = image-order ∙ sym (first-none _ _ e)
+    image-reason : decoding ≡ done → dropping.imageReason W H x y w h (factor sx) (factor sy) size ≡ dropping.putReason W H x y wide tall
+    image-reason e = image-order ∙ sym (first-none _ _ e)
 
-    pixels-number : putRefusal t x y wide tall (length pixels) (length l) ≡ first (dropping.putRefusal W H x y wide tall) (roomRefusal W (max H (y + tall)) (length l))
+    pixels-number : putRefusal t x y wide tall (length pixels) (length l) ≡ first (dropping.putReason W H x y wide tall) (roomRefusal W (max H (y + tall)) (length l))
     unfolding rectRefusal
     pixels-number = rw pixels-length (put-number x y wide tall)
 
@@ -208,24 +209,24 @@ module _ (s : List ℕ) (W H : ℕ) (paper : RGBA) (l : List ℕ) (some : 1 ≤ 
     unfolding steps.obeyedOn imageEntry
     image-bytes e f =
         put-placed (multiplies mode) t x y wide tall l pixels f
-        ∙ placed-area x y wide tall _ (pixels-on f)
+        ∙ placed-grown t refl x y wide tall _ l (pixels-on f)
         ∙ area-by _ _ _ _ _ _ _ _ (λ i j u v. drawn-same e i j (omega arith) v _)
         ∙ sym (entry-area entry)
 
     -- done; and refused, whatever pixels there are
     image-put : decoding ≡ done → OnCanvas s W H paper l (Image x y w h sx sy c mode start size) (imageOutcome done mode x y wide tall pixels t l)
-    unfolding imageOutcome dropping.refusal dropping.grown first
+    unfolding imageOutcome dropping.reasonOf dropping.heightAfter first
     image-put e =
         record {
-          number = rw (image-refusal e) pixels-number;
+          number = rw (image-reason e) pixels-number;
           answer = λ f. put-record t x y wide tall (length pixels) (length l) f ∙ put-answer x y wide tall;
           bytes = λ f. image-bytes e f;
         }
 
     image-refused : (any : List ℕ) → (decoding ≡ done → ⊥) → OnCanvas s W H paper l (Image x y w h sx sy c mode start size) (imageOutcome decoding mode x y 0 0 any t l)
-    unfolding imageOutcome dropping.refusal
+    unfolding imageOutcome dropping.reasonOf
     image-refused any e =
-        let kept = first-some decoding (dropping.putRefusal W H x y wide tall) e in
+        let kept = first-some decoding (dropping.putReason W H x y wide tall) e in
         record {
           number = rw image-order (rw (← kept) (sym (first-some decoding _ e) ∙ first-some decoding _ e));
           answer = λ f. absurd (e (first-done _ _ f .0));

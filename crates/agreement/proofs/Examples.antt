@@ -15,10 +15,10 @@ use Rattle.bits.specs.Bits.{bitAlpha}
 use Rattle.images.specs.Formats.{alphaOf, bytesOf}
 use Rattle.images.specs.Stretching.{factor, pixelOf, isLarge}
 use Rattle.areas.specs.Areas.{inArea}
-use Rattle.job.specs.Records.{le16, le32, rgbaAt, recordAt, one, upTo, records, Bytes}
+use Rattle.job.specs.Records.{le16, le32, rgbaAt, recordAt, recordThen, upTo, records, Bytes}
 use Rattle.job.specs.Commands.{soundPaper, soundCommand, soundCommands, soundRecords, sound, commandAt, commandsIn, afterPaper, commands}
 use Rattle.refusals.specs.Refusals.{tallRefusal}
-use Rattle.job.specs.Dropping.{putRefusal, imageRefusal, refusal, grown, next, heightFrom, keptFrom, droppedFrom, jobHeight, keptOf, jobDropped}
+use Rattle.job.specs.Dropping.{putReason, imageReason, reasonOf, heightAfter, next, heightFrom, keptFrom, droppedFrom, jobHeight, keptOf, jobDropped}
 use Rattle.plan.specs.Plan.{isFlip, hasFlip}
 use Rattle.runs.specs.Pictures.{withImage, withMargin, after, afterAll}
 use Rattle.runs.specs.Run.{runPicture}
@@ -61,7 +61,7 @@ small-bytes (b ∷ l) e zero = leb-true b 255 (and-both (leb b 255) (small l) e 
 small-bytes (b ∷ l) e (suc i) = small-bytes l (and-both (leb b 255) (small l) e .1) i
 
 plannable : Plannable job
-unfolding small job place u32 black white sound soundRecords soundPaper soundCommands soundCommand records upTo one recordAt le16 le32 rgbaAt commands afterPaper commandsIn commandAt hasFlip isFlip
+unfolding small job place u32 black white sound soundRecords soundPaper soundCommands soundCommand records upTo recordThen recordAt le16 le32 rgbaAt commands afterPaper commandsIn commandAt hasFlip isFlip
 plannable = record { bytes = small-bytes job refl; is-sound = refl; few = leb-true 5 64 refl; plain = refl }
 
 -- its height, its dropped list, and the reds of its rows: more than its first command is obeyed
@@ -74,5 +74,5 @@ obeyed : (jobHeight job ≡ 4)
     × (reds 1 ≡ 255 ∷ 255 ∷ 255 ∷ 255 ∷ [])
     × (reds 2 ≡ 0 ∷ 0 ∷ 255 ∷ 255 ∷ [])
     × (reds 3 ≡ 255 ∷ 0 ∷ 255 ∷ 0 ∷ [])
-unfolding reds job place u32 black white records upTo one recordAt le16 le32 rgbaAt commands afterPaper commandsIn commandAt jobHeight heightFrom jobDropped droppedFrom keptOf keptFrom next refusal putRefusal imageRefusal tallRefusal grown isLarge bytesOf factor runPicture afterAll after withImage withMargin inArea within drawn blendedAt blendByte pixelOf alphaOf bitAlpha
+unfolding reds job place u32 black white records upTo recordThen recordAt le16 le32 rgbaAt commands afterPaper commandsIn commandAt jobHeight heightFrom jobDropped droppedFrom keptOf keptFrom next reasonOf putReason imageReason tallRefusal heightAfter isLarge bytesOf factor runPicture afterAll after withImage withMargin inArea within drawn blendedAt blendByte pixelOf alphaOf bitAlpha
 obeyed = (refl, refl, refl, refl, refl, refl)

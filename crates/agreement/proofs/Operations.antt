@@ -14,8 +14,8 @@ use Rattle.dots.proofs.Laws.{run-none}
 use Rattle.job.specs.declared.commands.Command.{Command}
 use Rattle.job.specs.declared.commands.Command.the-variants.{Rectangle, Image, Margin, Flip}
 use Rattle.job.specs.Commands.{paperWidth, paperColor, commands}
-use Rattle.job.specs.Dropping.{refusal, grown, heightFrom, keptFrom, droppedFrom, jobHeight, keptOf, jobDropped}
-use Rattle.job.proofs.Reasons.{grown-fits}
+use Rattle.job.specs.Dropping.{reasonOf, heightAfter, heightFrom, keptFrom, droppedFrom, jobHeight, keptOf, jobDropped}
+use Rattle.job.proofs.Reasons.{after-fits}
 use Rattle.job.proofs.Folds.{height-kept, height-dropped, kept-kept, kept-dropped, dropped-kept, dropped-dropped, height-more}
 use Rattle.job.proofs.Soundness.{Sane, sane-rectangle, sane-image, sane-margin, sane-flip, AllSane, sane-more}
 use Rattle.job.proofs.Walk.{good, commands-sane}
@@ -70,30 +70,30 @@ module _ (s l : List ℕ) (outs : Command → List ℕ) (lent : (c : Command) �
     claim : OnCanvas s W H paper (shown W H p l) c (outcome s (outs c) (canvas W H true paper) (shown W H p l) c)
     claim = commands-on-canvas s (outs c) (shown W H p l) W H paper c some (canvas-sound H p h (room-for (height-more W H (c ∷ cs)) r)) inside (lent c)
 
-    keep : refusal W H c ≡ done → come k H p (c ∷ cs) ≡ told k H p (c ∷ cs)
+    keep : reasonOf W H c ≡ done → come k H p (c ∷ cs) ≡ told k H p (c ∷ cs)
     unfolding performed afterAll
     keep e =
-        let q : 4 * (W * heightFrom W (grown H c) cs) ≤ length l = rw (height-kept W H c cs e) at r in
-        let g : 4 * (W * grown H c) ≤ length l = room-for (height-more W (grown H c) cs) q in
-        let n = claim .number ∙ sym (first-none _ _ e) ∙ enough H p (grown H c) g in
+        let q : 4 * (W * heightFrom W (heightAfter H c) cs) ≤ length l = rw (height-kept W H c cs e) at r in
+        let g : 4 * (W * heightAfter H c) ≤ length l = room-for (height-more W (heightAfter H c) cs) q in
+        let n = claim .number ∙ sym (first-none _ _ e) ∙ enough H p (heightAfter H c) g in
         let o = obeyed s W some paper H p l bare c e (omega arith) in
         rw (height-kept W H c cs e, kept-kept W H c cs e, dropped-kept W H c cs e k)
         (rw (eq-eqb _ done n, claim .answer n)
-        (ap (λ (m : List ℕ). performed s outs (k + 1) (canvas W (grown H c) true paper) m cs) (claim .bytes n ∙ o .bytes)
-        ∙ rest (grown H c) (after s paper c p) (o .bare) (grown-fits W H c e) q))
+        (ap (λ (m : List ℕ). performed s outs (k + 1) (canvas W (heightAfter H c) true paper) m cs) (claim .bytes n ∙ o .bytes)
+        ∙ rest (heightAfter H c) (after s paper c p) (o .bare) (after-fits W H c e) q))
 
-    leave : (refusal W H c ≡ done → ⊥) → come k H p (c ∷ cs) ≡ told k H p (c ∷ cs)
+    leave : (reasonOf W H c ≡ done → ⊥) → come k H p (c ∷ cs) ≡ told k H p (c ∷ cs)
     unfolding performed
     leave e =
         let q : 4 * (W * heightFrom W H cs) ≤ length l = rw (height-dropped W H c cs e) at r in
         let n = claim .number ∙ sym (first-some _ _ e) in
         rw (height-dropped W H c cs e, kept-dropped W H c cs e, dropped-dropped W H c cs e k)
-        (rw (n, ne-eqb (refusal W H c) done e) (ap (without k (refusal W H c)) (rest H p bare h q)))
+        (rw (n, ne-eqb (reasonOf W H c) done e) (ap (without k (reasonOf W H c)) (rest H p bare h q)))
 
     one-more : come k H p (c ∷ cs) ≡ told k H p (c ∷ cs)
-    one-more = by (eqb (refusal W H c) done) refl
+    one-more = by (eqb (reasonOf W H c) done) refl
       where
-        by : (b : Bool) → eqb (refusal W H c) done ≡ b → come k H p (c ∷ cs) ≡ told k H p (c ∷ cs)
+        by : (b : Bool) → eqb (reasonOf W H c) done ≡ b → come k H p (c ∷ cs) ≡ told k H p (c ∷ cs)
         by true e = keep (eqb-true _ _ e)
         by false e = leave (eqb-false _ _ e)
 

@@ -12,7 +12,7 @@ use Rattle.images.specs.Stretching.{factor}
 use Rattle.job.specs.declared.commands.Command.{Command}
 use Rattle.job.specs.declared.commands.Command.the-variants.{Rectangle, Image, Margin, Flip}
 use Rattle.job.specs.Commands.{paperWidth, soundMode, commands}
-use Rattle.job.specs.Dropping.{grown, keptOf, jobHeight}
+use Rattle.job.specs.Dropping.{heightAfter, keptOf, jobHeight}
 use Rattle.job.proofs.Reasons.{rectangle-kept, stretched-kept}
 use Rattle.job.proofs.Folds.{Keeps, none, keep, drop, keeps, keeps-fits}
 use Rattle.job.proofs.Soundness.{sane-rectangle, sane-image, AllSane, sane-more}
@@ -36,7 +36,7 @@ lower-good W H H' n m e h g =
 
 -- the rows that margins add are part of the height
 margins-fit : {W H H' : ℕ} {cs ks : List Command} → Keeps W H cs ks H' → H + margins ks ≤ H'
-unfolding margins grown
+unfolding margins heightAfter
 margins-fit none = omega arith
 margins-fit (keep {c = Rectangle x y w h c m} e r) = omega (arith, margins-fit r)
 margins-fit (keep {c = Image x y w h sx sy c m start size} e r) = omega (arith, margins-fit r)
@@ -45,7 +45,7 @@ margins-fit (keep {c = Flip x y w h} e r) = omega (arith, margins-fit r)
 margins-fit (drop r) = margins-fit r
 
 entries-good : (s : List ℕ) {W H H' : ℕ} {cs ks : List Command} → Keeps W H cs ks H' → AllSane s cs → goodEntries W H' (length s) (entriesOf W ks) ≡ true
-unfolding goodEntries entriesOf grown
+unfolding goodEntries entriesOf heightAfter
 entries-good s none a = refl
 entries-good s {W} {H} {H'} (keep {c = Rectangle x y w h c mode} {ks = ks} e r) (sane-more (sane-rectangle m) a) =
     let k = rectangle-kept W H e refl in

@@ -16,7 +16,7 @@ use Rattle.job.specs.declared.commands.Command.the-variants.{Rectangle, Image, 
 use Rattle.job.specs.declared.dropping.Dropped.{Dropped}
 use Rattle.job.specs.Records.{Bytes}
 use Rattle.job.specs.Commands.{paperWidth, paperColor, commands}
-use Rattle.job.specs.Dropping.{refusal, grown, jobDropped}
+use Rattle.job.specs.Dropping.{reasonOf, heightAfter, jobDropped}
 use Rattle.entries.specs.Entries.{multiplies}
 use Rattle.thermal_image.specs.declared.ThermalImage.{ThermalImage}
 use Rattle.thermal_image.specs.declared.Answer.{Answer}
@@ -85,8 +85,8 @@ pixelBytes (Flip x y w h) = 0
 -- what an operation gives, beside the command c on paper W wide, H rows high so far, in the buffer l
 pub record OnCanvas (s : List ℕ) (W H : ℕ) (paper : RGBA) (l : List ℕ) (c : Command) (o : Outcome) : Type 0 where
   -- what the command is dropped for; else only a buffer too short for the new height is refused, which a run decides at its start
-  pub number : o .number ≡ first (refusal W H c) (roomRefusal W (grown H c) (length l))
-  pub answer : o .number ≡ done → o .answer ≡ finished (canvas W (grown H c) true paper)
+  pub number : o .number ≡ first (reasonOf W H c) (roomRefusal W (heightAfter H c) (length l))
+  pub answer : o .number ≡ done → o .answer ≡ finished (canvas W (heightAfter H c) true paper)
   pub bytes : o .number ≡ done → o .bytes ≡ obeyedOn s W paper H c l
 
 -- for every command and every sound canvas with growth on

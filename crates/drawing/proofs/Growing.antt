@@ -6,13 +6,13 @@ use native.Mathlib.Omega.{arith}
 use lib.ListN.{length}
 use Rattle.numbers.specs.Numbers.{limit, done}
 use Rattle.colour.specs.declared.RGBA.{RGBA}
-use Rattle.dots.proofs.Laws.{length-change}
 use Rattle.areas.specs.Areas.{Fits, areaOn}
 use Rattle.areas.proofs.Laws.{area-fits}
 use Rattle.thermal_image.specs.declared.ThermalImage.{ThermalImage}
 use Rattle.thermal_image.specs.declared.Answer.{Answer}
 use Rattle.refusals.specs.Refusals.{growRefusal}
-use Rattle.thermal_image.specs.Canvas.{sized, finished, answered, written, papered, grown, grownOn}
+use Rattle.thermal_image.specs.Canvas.{sized, finished, answered, written, grown, grownOn}
+use Rattle.thermal_image.proofs.Paper.{length-papered}
 use Rattle.refusals.proofs.Codes.{rows-some, grow-done}
 use Rattle.places.specs.Places.{cropWide, cropTall}
 use Rattle.places.specs.Steps.{Ready}
@@ -27,8 +27,8 @@ module _ (W H rows : ℕ) (more : H ≤ rows) where
   grows-room n e = let top : max H rows ≡ rows = omega arith in omega (arith, rw top at (grow-done W H rows n e .room))
 
 pub length-grown : (t : ThermalImage) (rows : ℕ) (l : List ℕ) → length (grownTo t rows l) ≡ length l
-unfolding grownTo papered
-length-grown t rows l = length-change _ _ l
+unfolding grownTo
+length-grown t rows l = length-papered _ _ _ _ l
 
 pub record Grown (t : ThermalImage) (rows : ℕ) (l : List ℕ) (a : Answer) (m : List ℕ) : Type 0 where
   pub answer : a ≡ finished (sized t (t .width) rows)

@@ -3,7 +3,7 @@ use mathlib.Core.Path.{_≡_, refl, sym, ap, _∙_}
 use mathlib.Core.Logic.{⊎-elim}
 use mathlib.Core.Bool.{Bool, true, false}
 use mathlib.Core.List.{List}
-use Prim.Native.Nat.{ℕ, _+_, _-_, _*_, _≤_, _<_}
+use Prim.Native.Nat.{ℕ, _+_, _-_, _*_, _≤_, _<_, min, max}
 use native.Mathlib.Omega.{arith}
 use lib.ListN.{length}
 use lib.Dec.{ltb}
@@ -18,11 +18,11 @@ use Rattle.areas.specs.Areas.{inArea, areaOn, flippedOn}
 use Rattle.areas.proofs.Laws.{area-dot, in-area-true}
 use Rattle.thermal_image.specs.declared.ThermalImage.{ThermalImage}
 use Rattle.refusals.specs.Refusals.{growRefusal}
-use Rattle.thermal_image.specs.Canvas.{sized, finished, answered, written}
+use Rattle.thermal_image.specs.Canvas.{sized, finished, answered, written, papered}
 use Rattle.thermal_image.proofs.Laws.{within-rows, grown-kept, grown-paper}
 use Rattle.places.specs.Places.{cropWide, cropTall, tallAfter, flipTall, putRefusal, rectRefusal, flipRefusal}
 use Rattle.places.specs.Steps.{Ready}
-use Rattle.places.proofs.Codes.{put-ready, Flips, flip-done}
+use Rattle.places.proofs.Codes.{put-ready, Flips, flip-done, flip-tall, tall-grown, crop-grown, crop-min}
 use Rattle.drawing.specs.Drawing.{drew, grownTo, placed, pixelsDrawn, put, putOn, rect, rectOn, flip, flipOn}
 use Rattle.drawing.proofs.Growing.{grows-room, length-grown, grew}
 
@@ -59,6 +59,13 @@ module _ (t : ThermalImage) (rows : ℕ) (l : List ℕ) (more : t .height ≤ ro
       area-dot (t .width) x y w h f (grownTo t rows l) i j a
       (rw (length-grown t rows l) (omega (arith, grows-room (t .width) (t .height) rows more (length l) grows, within-rows t i j rows a b)))
       ∙ rw grown-dot
+
+-- with growth on the canvas grows to what is drawn, and only its right side is cropped
+pub placed-grown : (t : ThermalImage) → t .«auto_grow» ≡ true → (x y w h : ℕ) (f : ℕ → ℕ → RGBA → RGBA) (l : List ℕ) → x < t .width
+    → placed t x y w h (tallAfter t x y w h) f l
+    ≡ areaOn (t .width) x y (min w (t .width - x)) h f (papered (t .width) (t .height) (max (t .height) (y + h)) (t .«paper_color») l)
+unfolding placed grownTo
+placed-grown t g x y w h f l b = rw (tall-grown t g x y w h, crop-grown t g x y w h, crop-min t x y w b)
 
 -- a put's dot: drawn on in the area, as it was or new paper outside it
 pub placed-dot : (t : ThermalImage) (x y w h rows : ℕ) (l : List ℕ) → Ready t x y w h rows (length l) → (i j : ℕ) → i < t .width → j < rows → (f : ℕ → ℕ → RGBA → RGBA)
@@ -97,6 +104,11 @@ module _ (t : ThermalImage) (x y w h : ℕ) where
   pub flip-record : (n : ℕ) → flipRefusal t x y w h n ≡ done → flip t x y w h n ≡ finished (sized t (t .width) (flipTall t y h))
   unfolding flip drew answered
   flip-record n e = rw e
+
+  pub flip-placed : (l : List ℕ) → flipRefusal t x y w h (length l) ≡ done
+      → flipOn t x y w h l ≡ flippedOn (t .width) x y w h (papered (t .width) (t .height) (max (t .height) (y + h)) (t .«paper_color») l)
+  unfolding flipOn written grownTo
+  flip-placed l e = rw (e, flip-tall t y h)
 
   -- a dot of the area is blended with its mirror
   pub flip-dot : (l : List ℕ) → flipRefusal t x y w h (length l) ≡ done → (i j : ℕ) → i < t .width → j < flipTall t y h

@@ -11,48 +11,48 @@ use Rattle.numbers.specs.Numbers.{limit, done}
 use Rattle.colour.specs.Choice.{if_then_else_}
 use Rattle.job.specs.declared.commands.Command.{Command}
 use Rattle.job.specs.declared.commands.Command.the-variants.{Rectangle, Image, Margin, Flip}
-use Rattle.job.specs.Dropping.{mostCommands, refusal, grown, kept, next, heightFrom, keptFrom, droppedFrom, padded}
-use Rattle.job.proofs.Reasons.{grown-fits}
+use Rattle.job.specs.Dropping.{mostCommands, reasonOf, heightAfter, kept, next, heightFrom, keptFrom, droppedFrom, padded}
+use Rattle.job.proofs.Reasons.{after-fits}
 
 -- ---- one command, kept or dropped
 
 module _ (W H : ℕ) (c : Command) (cs : List Command) where
-  module _ (e : refusal W H c ≡ done) where
-    pub height-kept : heightFrom W H (c ∷ cs) ≡ heightFrom W (grown H c) cs
+  module _ (e : reasonOf W H c ≡ done) where
+    pub height-kept : heightFrom W H (c ∷ cs) ≡ heightFrom W (heightAfter H c) cs
     unfolding heightFrom next
-    height-kept = rw (eq-eqb (refusal W H c) done e)
+    height-kept = rw (eq-eqb (reasonOf W H c) done e)
 
-    pub kept-kept : keptFrom W H (c ∷ cs) ≡ c ∷ keptFrom W (grown H c) cs
+    pub kept-kept : keptFrom W H (c ∷ cs) ≡ c ∷ keptFrom W (heightAfter H c) cs
     unfolding keptFrom next
-    kept-kept = rw (eq-eqb (refusal W H c) done e)
+    kept-kept = rw (eq-eqb (reasonOf W H c) done e)
 
-    pub dropped-kept : (k : ℕ) → droppedFrom W H k (c ∷ cs) ≡ droppedFrom W (grown H c) (k + 1) cs
+    pub dropped-kept : (k : ℕ) → droppedFrom W H k (c ∷ cs) ≡ droppedFrom W (heightAfter H c) (k + 1) cs
     unfolding droppedFrom next
-    dropped-kept k = rw (eq-eqb (refusal W H c) done e)
+    dropped-kept k = rw (eq-eqb (reasonOf W H c) done e)
 
-  module _ (e : refusal W H c ≡ done → ⊥) where
+  module _ (e : reasonOf W H c ≡ done → ⊥) where
     pub height-dropped : heightFrom W H (c ∷ cs) ≡ heightFrom W H cs
     unfolding heightFrom next
-    height-dropped = rw (ne-eqb (refusal W H c) done e)
+    height-dropped = rw (ne-eqb (reasonOf W H c) done e)
 
     pub kept-dropped : keptFrom W H (c ∷ cs) ≡ keptFrom W H cs
     unfolding keptFrom next
-    kept-dropped = rw (ne-eqb (refusal W H c) done e)
+    kept-dropped = rw (ne-eqb (reasonOf W H c) done e)
 
-    pub dropped-dropped : (k : ℕ) → droppedFrom W H k (c ∷ cs) ≡ record { place = k; reason = refusal W H c } ∷ droppedFrom W H (k + 1) cs
+    pub dropped-dropped : (k : ℕ) → droppedFrom W H k (c ∷ cs) ≡ record { place = k; reason = reasonOf W H c } ∷ droppedFrom W H (k + 1) cs
     unfolding droppedFrom next
-    dropped-dropped k = rw (ne-eqb (refusal W H c) done e)
+    dropped-dropped k = rw (ne-eqb (reasonOf W H c) done e)
 
 -- ---- the folds as one view: commands cs, from height H on, of which ks are kept, and the height becomes H'
 
 pub data Keeps (W : ℕ) : ℕ → List Command → List Command → ℕ → Type 0 where
   none : {H : ℕ} → Keeps W H [] [] H
-  keep : {H H' : ℕ} {c : Command} {cs ks : List Command} → refusal W H c ≡ done → Keeps W (grown H c) cs ks H' → Keeps W H (c ∷ cs) (c ∷ ks) H'
+  keep : {H H' : ℕ} {c : Command} {cs ks : List Command} → reasonOf W H c ≡ done → Keeps W (heightAfter H c) cs ks H' → Keeps W H (c ∷ cs) (c ∷ ks) H'
   drop : {H H' : ℕ} {c : Command} {cs ks : List Command} → Keeps W H cs ks H' → Keeps W H (c ∷ cs) ks H'
 
 keeps-step : (W H : ℕ) (c : Command) (cs : List Command) (t : Bool) → kept W H c ≡ t → ((H : ℕ) → Keeps W H cs (keptFrom W H cs) (heightFrom W H cs))
-    → Keeps W H (c ∷ cs) (if t then c ∷ keptFrom W (if t then grown H c else H) cs else keptFrom W (if t then grown H c else H) cs) (heightFrom W (if t then grown H c else H) cs)
-keeps-step W H c cs true e f = keep (eqb-true _ _ e) (f (grown H c))
+    → Keeps W H (c ∷ cs) (if t then c ∷ keptFrom W (if t then heightAfter H c else H) cs else keptFrom W (if t then heightAfter H c else H) cs) (heightFrom W (if t then heightAfter H c else H) cs)
+keeps-step W H c cs true e f = keep (eqb-true _ _ e) (f (heightAfter H c))
 keeps-step W H c cs false e f = drop (f H)
 
 pub keeps : (W H : ℕ) (cs : List Command) → Keeps W H cs (keptFrom W H cs) (heightFrom W H cs)
@@ -62,21 +62,21 @@ keeps W H (c ∷ cs) = keeps-step W H c cs (kept W H c) refl (λ H'. keeps W H' 
 
 pub keeps-fits : {W H H' : ℕ} {cs ks : List Command} → Keeps W H cs ks H' → H ≤ limit → H' ≤ limit
 keeps-fits none h = h
-keeps-fits {W} {H} (keep {c = c} e r) h = keeps-fits r (grown-fits W H c e)
+keeps-fits {W} {H} (keep {c = c} e r) h = keeps-fits r (after-fits W H c e)
 keeps-fits (drop r) h = keeps-fits r h
 
 -- ---- heights only grow
 
-grown-more : (H : ℕ) (c : Command) → H ≤ grown H c
-unfolding grown
-grown-more H (Rectangle x y w h c mode) = omega arith
-grown-more H (Image x y w h sx sy c mode start size) = omega arith
-grown-more H (Margin m) = omega arith
-grown-more H (Flip x y w h) = omega arith
+after-more : (H : ℕ) (c : Command) → H ≤ heightAfter H c
+unfolding heightAfter
+after-more H (Rectangle x y w h c mode) = omega arith
+after-more H (Image x y w h sx sy c mode start size) = omega arith
+after-more H (Margin m) = omega arith
+after-more H (Flip x y w h) = omega arith
 
 pub keeps-more : {W H H' : ℕ} {cs ks : List Command} → Keeps W H cs ks H' → H ≤ H'
 keeps-more none = omega arith
-keeps-more {H = H} (keep {c = c} e r) = omega (arith, grown-more H c, keeps-more r)
+keeps-more {H = H} (keep {c = c} e r) = omega (arith, after-more H c, keeps-more r)
 keeps-more (drop r) = keeps-more r
 
 pub height-more : (W H : ℕ) (cs : List Command) → H ≤ heightFrom W H cs

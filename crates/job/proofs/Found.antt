@@ -10,7 +10,7 @@ use lib.Dec.{ltb, leb}
 use Rattle.colour.specs.Choice.{if_then_else_}
 use Rattle.job.specs.declared.records.Rec.{Rec}
 use Rattle.job.specs.declared.records.Rec.the-variants.{Record, Bad, End}
-use Rattle.job.specs.Records.{le16, le32, recordAt, Records, ended, broken, rec, one, upTo, records}
+use Rattle.job.specs.Records.{le16, le32, recordAt, Records, ended, broken, rec, recordThen, upTo, records}
 
 -- ---- from tests to what stands at a position
 
@@ -57,24 +57,24 @@ seen s at = seen-by s at _ _ _ _ refl refl refl refl
 
 -- ---- the records from a position on
 
-one-same : {s : List ℕ} {at : ℕ} {r : Rec} → Seen s at r → (f g : ℕ → Records) → ((nx : ℕ) → at + 6 ≤ nx → nx ≤ length s → f nx ≡ g nx) → one f r ≡ one g r
-unfolding one
-one-same (see-end h) f g e = refl
-one-same (see-bad h) f g e = refl
-one-same (see-rec {k} {st} {n} {nx} h h′ b) f g e = ap (rec k st n) (e nx (omega arith) b)
+then-same : {s : List ℕ} {at : ℕ} {r : Rec} → Seen s at r → (f g : ℕ → Records) → ((nx : ℕ) → at + 6 ≤ nx → nx ≤ length s → f nx ≡ g nx) → recordThen f r ≡ recordThen g r
+unfolding recordThen
+then-same (see-end h) f g e = refl
+then-same (see-bad h) f g e = refl
+then-same (see-rec {k} {st} {n} {nx} h h′ b) f g e = ap (rec k st n) (e nx (omega arith) b)
 
 stable : (n m : ℕ) (s : List ℕ) (at : ℕ) → length s - at ≤ n → length s - at ≤ m → upTo n s at ≡ upTo m s at
-unfolding upTo one
+unfolding upTo recordThen
 stable zero zero s at h g = refl
 stable zero (suc m) s at h g = rw (← is-end s at (omega arith)) refl
 stable (suc n) zero s at h g = rw (← is-end s at (omega arith)) refl
-stable (suc n) (suc m) s at h g = one-same (seen s at) (upTo n s) (upTo m s) (λ nx a b. stable n m s nx (omega arith) (omega arith))
+stable (suc n) (suc m) s at h g = then-same (seen s at) (upTo n s) (upTo m s) (λ nx a b. stable n m s nx (omega arith) (omega arith))
 
-pub records-step : (s : List ℕ) (at : ℕ) → records s at ≡ one (records s) (recordAt s at)
+pub records-step : (s : List ℕ) (at : ℕ) → records s at ≡ recordThen (records s) (recordAt s at)
 unfolding records upTo
 records-step s at =
     stable (length s - at) (suc (length s - at)) s at (omega arith) (omega arith)
-    ∙ one-same (seen s at) (upTo (length s - at) s) (λ nx. upTo (length s - nx) s nx) (λ nx a b. stable (length s - at) (length s - nx) s nx (omega arith) (omega arith))
+    ∙ then-same (seen s at) (upTo (length s - at) s) (λ nx. upTo (length s - nx) s nx) (λ nx a b. stable (length s - at) (length s - nx) s nx (omega arith) (omega arith))
 
 -- ---- what follows of each answer, for a loop that goes from record to record
 
@@ -91,15 +91,15 @@ module _ (s : List ℕ) (at : ℕ) where
   found e = found-of (rw (← e) at (seen s at))
 
   pub records-record : {k st n nx : ℕ} → Record k st n nx ≡ recordAt s at → records s at ≡ rec k st n (records s nx)
-  unfolding one
+  unfolding recordThen
   records-record e = records-step s at ∙ rw (← e) refl
 
   pub records-end : End ≡ recordAt s at → records s at ≡ ended
-  unfolding one
+  unfolding recordThen
   records-end e = records-step s at ∙ rw (← e) refl
 
   pub records-bad : Bad ≡ recordAt s at → records s at ≡ broken
-  unfolding one
+  unfolding recordThen
   records-bad e = records-step s at ∙ rw (← e) refl
 
 -- ---- every body lies within n bytes
@@ -109,16 +109,16 @@ pub data Inside (n : ℕ) : Records → Type 0 where
   in-broken : Inside n broken
   in-rec : {k st size : ℕ} {rest : Records} → st + size ≤ n → Inside n rest → Inside n (rec k st size rest)
 
-inside-one : {s : List ℕ} {at : ℕ} {r : Rec} (f : ℕ → Records) → Seen s at r → ((nx : ℕ) → Inside (length s) (f nx)) → Inside (length s) (one f r)
-unfolding one
-inside-one f (see-end h) g = in-ended
-inside-one f (see-bad h) g = in-broken
-inside-one f (see-rec {st = st} {n = n} {nx = nx} h h′ b) g = in-rec {st = st} {size = n} (omega arith) (g nx)
+inside-then : {s : List ℕ} {at : ℕ} {r : Rec} (f : ℕ → Records) → Seen s at r → ((nx : ℕ) → Inside (length s) (f nx)) → Inside (length s) (recordThen f r)
+unfolding recordThen
+inside-then f (see-end h) g = in-ended
+inside-then f (see-bad h) g = in-broken
+inside-then f (see-rec {st = st} {n = n} {nx = nx} h h′ b) g = in-rec {st = st} {size = n} (omega arith) (g nx)
 
 inside-upTo : (n : ℕ) (s : List ℕ) (at : ℕ) → Inside (length s) (upTo n s at)
 unfolding upTo
 inside-upTo zero s at = in-ended
-inside-upTo (suc n) s at = inside-one (upTo n s) (seen s at) (inside-upTo n s)
+inside-upTo (suc n) s at = inside-then (upTo n s) (seen s at) (inside-upTo n s)
 
 pub inside : (s : List ℕ) (at : ℕ) → Inside (length s) (records s at)
 unfolding records

@@ -17,88 +17,88 @@ use Rattle.images.specs.Stretching.{factor, isLarge}
 use Rattle.images.proofs.Sides.{Small, small}
 use Rattle.job.specs.declared.commands.Command.{Command}
 use Rattle.job.specs.declared.commands.Command.the-variants.{Rectangle, Image, Margin, Flip}
-use Rattle.job.specs.Dropping.{putRefusal, imageRefusal, flipRefusal, refusal, grown}
+use Rattle.job.specs.Dropping.{putReason, imageReason, flipReason, reasonOf, heightAfter}
 
 -- ---- from tests to the number
 
 module _ (W H x y w h : ℕ) where
-  pub put-wide : limit < w → tooLarge ≡ putRefusal W H x y w h
-  unfolding putRefusal
+  pub put-wide : limit < w → tooLarge ≡ putReason W H x y w h
+  unfolding putReason
   put-wide a = rw (lt-ltb limit w a)
 
-  pub put-high : limit < h → tooLarge ≡ putRefusal W H x y w h
-  unfolding putRefusal
+  pub put-high : limit < h → tooLarge ≡ putReason W H x y w h
+  unfolding putReason
   put-high a = rw (lt-ltb limit h a, or-true)
 
-  pub put-off : w ≤ limit → h ≤ limit → W ≤ x → offPaper ≡ putRefusal W H x y w h
-  unfolding putRefusal
+  pub put-off : w ≤ limit → h ≤ limit → W ≤ x → offPaper ≡ putReason W H x y w h
+  unfolding putReason
   put-off a b d = rw (le-ltb limit w a, le-ltb limit h b, le-leb W x d)
 
-  pub put-rest : w ≤ limit → h ≤ limit → x < W → {r e : ℕ} → e ≡ max H (y + h) → r ≡ tallRefusal e → r ≡ putRefusal W H x y w h
-  unfolding putRefusal
+  pub put-rest : w ≤ limit → h ≤ limit → x < W → {r e : ℕ} → e ≡ max H (y + h) → r ≡ tallRefusal e → r ≡ putReason W H x y w h
+  unfolding putReason
   put-rest a b d q f = rw (le-ltb limit w a, le-ltb limit h b, lt-leb W x d, ← q) f
 
-  pub flip-empty : (w ≡ 0) ⊎ (h ≡ 0) → emptyArea ≡ flipRefusal W H x y w h
-  unfolding flipRefusal
+  pub flip-empty : (w ≡ 0) ⊎ (h ≡ 0) → emptyArea ≡ flipReason W H x y w h
+  unfolding flipReason
   flip-empty (inl a) = rw (eq-eqb w 0 a)
   flip-empty (inr a) = rw (eq-eqb h 0 a, or-true)
 
-  pub flip-off : (w ≡ 0 → ⊥) → (h ≡ 0 → ⊥) → W < x + w → offPaper ≡ flipRefusal W H x y w h
-  unfolding flipRefusal
+  pub flip-off : (w ≡ 0 → ⊥) → (h ≡ 0 → ⊥) → W < x + w → offPaper ≡ flipReason W H x y w h
+  unfolding flipReason
   flip-off a b d = rw (ne-eqb w 0 a, ne-eqb h 0 b, lt-ltb W (x + w) d)
 
-  pub flip-rest : (w ≡ 0 → ⊥) → (h ≡ 0 → ⊥) → x + w ≤ W → {r e : ℕ} → e ≡ max H (y + h) → r ≡ tallRefusal e → r ≡ flipRefusal W H x y w h
-  unfolding flipRefusal
+  pub flip-rest : (w ≡ 0 → ⊥) → (h ≡ 0 → ⊥) → x + w ≤ W → {r e : ℕ} → e ≡ max H (y + h) → r ≡ tallRefusal e → r ≡ flipReason W H x y w h
+  unfolding flipReason
   flip-rest a b d q f = rw (ne-eqb w 0 a, ne-eqb h 0 b, le-ltb W (x + w) d, ← q) f
 
   module _ (fx fy size : ℕ) where
-    pub image-large : isLarge w h fx fy ≡ true → tooLarge ≡ imageRefusal W H x y w h fx fy size
-    unfolding imageRefusal
+    pub image-large : isLarge w h fx fy ≡ true → tooLarge ≡ imageReason W H x y w h fx fy size
+    unfolding imageReason
     image-large l = rw l
 
-    pub image-length : isLarge w h fx fy ≡ false → (size ≡ bytesOf Bits w h → ⊥) → wrongLength ≡ imageRefusal W H x y w h fx fy size
-    unfolding imageRefusal
+    pub image-length : isLarge w h fx fy ≡ false → (size ≡ bytesOf Bits w h → ⊥) → wrongLength ≡ imageReason W H x y w h fx fy size
+    unfolding imageReason
     image-length l e = rw (l, ne-eqb size (bytesOf Bits w h) e)
 
-    pub image-rest : isLarge w h fx fy ≡ false → size ≡ bytesOf Bits w h → putRefusal W H x y (w * fx) (h * fy) ≡ imageRefusal W H x y w h fx fy size
-    unfolding imageRefusal
+    pub image-rest : isLarge w h fx fy ≡ false → size ≡ bytesOf Bits w h → putReason W H x y (w * fx) (h * fy) ≡ imageReason W H x y w h fx fy size
+    unfolding imageReason
     image-rest l e = rw (l, eq-eqb size (bytesOf Bits w h) e)
 
--- the refusal of a command, by its kind
+-- the reason of a command, by its kind
 module _ (W H : ℕ) {r : ℕ} {d : Command} where
-  pub of-rectangle : {x y w h mode : ℕ} {c : RGBA} → d ≡ Rectangle x y w h c mode → r ≡ putRefusal W H x y w h → r ≡ refusal W H d
-  unfolding refusal
+  pub of-rectangle : {x y w h mode : ℕ} {c : RGBA} → d ≡ Rectangle x y w h c mode → r ≡ putReason W H x y w h → r ≡ reasonOf W H d
+  unfolding reasonOf
   of-rectangle e f = rw e f
 
-  pub of-image : {x y w h sx sy mode start size : ℕ} {c : RGBA} → d ≡ Image x y w h sx sy c mode start size → r ≡ imageRefusal W H x y w h (factor sx) (factor sy) size → r ≡ refusal W H d
-  unfolding refusal
+  pub of-image : {x y w h sx sy mode start size : ℕ} {c : RGBA} → d ≡ Image x y w h sx sy c mode start size → r ≡ imageReason W H x y w h (factor sx) (factor sy) size → r ≡ reasonOf W H d
+  unfolding reasonOf
   of-image e f = rw e f
 
-  pub of-margin : {m : ℕ} → d ≡ Margin m → r ≡ tallRefusal (H + m) → r ≡ refusal W H d
-  unfolding refusal
+  pub of-margin : {m : ℕ} → d ≡ Margin m → r ≡ tallRefusal (H + m) → r ≡ reasonOf W H d
+  unfolding reasonOf
   of-margin e f = rw e f
 
-  pub of-flip : {x y w h : ℕ} → d ≡ Flip x y w h → r ≡ flipRefusal W H x y w h → r ≡ refusal W H d
-  unfolding refusal
+  pub of-flip : {x y w h : ℕ} → d ≡ Flip x y w h → r ≡ flipReason W H x y w h → r ≡ reasonOf W H d
+  unfolding reasonOf
   of-flip e f = rw e f
 
 -- the height after a command, by its kind
 module _ (H : ℕ) {d : Command} where
-  pub grown-rectangle : {x y w h mode : ℕ} {c : RGBA} → d ≡ Rectangle x y w h c mode → grown H d ≡ max H (y + h)
-  unfolding grown
-  grown-rectangle e = rw e
+  pub after-rectangle : {x y w h mode : ℕ} {c : RGBA} → d ≡ Rectangle x y w h c mode → heightAfter H d ≡ max H (y + h)
+  unfolding heightAfter
+  after-rectangle e = rw e
 
-  pub grown-image : {x y w h sx sy mode start size : ℕ} {c : RGBA} → d ≡ Image x y w h sx sy c mode start size → {f : ℕ} → f ≡ factor sy → grown H d ≡ max H (y + h * f)
-  unfolding grown
-  grown-image e f = rw (e, f)
+  pub after-image : {x y w h sx sy mode start size : ℕ} {c : RGBA} → d ≡ Image x y w h sx sy c mode start size → {f : ℕ} → f ≡ factor sy → heightAfter H d ≡ max H (y + h * f)
+  unfolding heightAfter
+  after-image e f = rw (e, f)
 
-  pub grown-margin : {m : ℕ} → d ≡ Margin m → grown H d ≡ H + m
-  unfolding grown
-  grown-margin e = rw e
+  pub after-margin : {m : ℕ} → d ≡ Margin m → heightAfter H d ≡ H + m
+  unfolding heightAfter
+  after-margin e = rw e
 
-  pub grown-flip : {x y w h : ℕ} → d ≡ Flip x y w h → grown H d ≡ max H (y + h)
-  unfolding grown
-  grown-flip e = rw e
+  pub after-flip : {x y w h : ℕ} → d ≡ Flip x y w h → heightAfter H d ≡ max H (y + h)
+  unfolding heightAfter
+  after-flip e = rw e
 
 -- ---- what is known of a command that is kept
 
@@ -112,8 +112,8 @@ pub record PutKept (W H x y w h : ℕ) : Type 0 where
   pub on : x < W
   pub fits : max H (y + h) ≤ limit
 
-pub put-kept : (W H x y w h : ℕ) → putRefusal W H x y w h ≡ done → PutKept W H x y w h
-unfolding putRefusal
+pub put-kept : (W H x y w h : ℕ) → putReason W H x y w h ≡ done → PutKept W H x y w h
+unfolding putReason
 put-kept W H x y w h e =
     let a = passed-on (ltb limit w || ltb limit h) (omega arith) e in
     let b = passed-on (leb W x) (omega arith) (a .1) in
@@ -125,8 +125,8 @@ pub record ImageKept (W H x y w h fx fy size : ℕ) : Type 0 where
   pub bytes : size ≡ bytesOf Bits w h
   pub put : PutKept W H x y (w * fx) (h * fy)
 
-pub image-kept : (W H x y w h fx fy size : ℕ) → imageRefusal W H x y w h fx fy size ≡ done → ImageKept W H x y w h fx fy size
-unfolding imageRefusal
+pub image-kept : (W H x y w h fx fy size : ℕ) → imageReason W H x y w h fx fy size ≡ done → ImageKept W H x y w h fx fy size
+unfolding imageReason
 image-kept W H x y w h fx fy size e =
     let a = passed-on (isLarge w h fx fy) (omega arith) e in
     let b = passed-on (not (eqb size (bytesOf Bits w h))) (omega arith) (a .1) in
@@ -138,8 +138,8 @@ pub record FlipKept (W H x y w h : ℕ) : Type 0 where
   pub on : x + w ≤ W
   pub fits : max H (y + h) ≤ limit
 
-pub flip-kept : (W H x y w h : ℕ) → flipRefusal W H x y w h ≡ done → FlipKept W H x y w h
-unfolding flipRefusal
+pub flip-kept : (W H x y w h : ℕ) → flipReason W H x y w h ≡ done → FlipKept W H x y w h
+unfolding flipReason
 flip-kept W H x y w h e =
     let a = passed-on (eqb w 0 || eqb h 0) (omega arith) e in
     let b = passed-on (ltb W (x + w)) (omega arith) (a .1) in
@@ -147,27 +147,27 @@ flip-kept W H x y w h e =
     record { wide = eqb-false _ _ (c .0); high = eqb-false _ _ (c .1); on = ltb-false _ _ (b .0); fits = tall-done _ (b .1) }
 
 -- the same of a command, by its kind
-module _ (W H : ℕ) {d : Command} (k : refusal W H d ≡ done) where
+module _ (W H : ℕ) {d : Command} (k : reasonOf W H d ≡ done) where
   pub rectangle-kept : {x y w h mode : ℕ} {c : RGBA} → d ≡ Rectangle x y w h c mode → PutKept W H x y w h
-  unfolding refusal
+  unfolding reasonOf
   rectangle-kept e = put-kept W H _ _ _ _ (rw e at k)
 
   pub stretched-kept : {x y w h sx sy mode start size : ℕ} {c : RGBA} → d ≡ Image x y w h sx sy c mode start size → ImageKept W H x y w h (factor sx) (factor sy) size
-  unfolding refusal
+  unfolding reasonOf
   stretched-kept e = image-kept W H _ _ _ _ _ _ _ (rw e at k)
 
   pub margin-kept : {m : ℕ} → d ≡ Margin m → H + m ≤ limit
-  unfolding refusal
+  unfolding reasonOf
   margin-kept e = tall-done _ (rw e at k)
 
   pub mirrored-kept : {x y w h : ℕ} → d ≡ Flip x y w h → FlipKept W H x y w h
-  unfolding refusal
+  unfolding reasonOf
   mirrored-kept e = flip-kept W H _ _ _ _ (rw e at k)
 
 -- a command that is kept leaves a height within the limit
-pub grown-fits : (W H : ℕ) (c : Command) → refusal W H c ≡ done → grown H c ≤ limit
-unfolding grown
-grown-fits W H (Rectangle x y w h c mode) k = rectangle-kept W H k refl .fits
-grown-fits W H (Image x y w h sx sy c mode start size) k = stretched-kept W H k refl .put .fits
-grown-fits W H (Margin m) k = margin-kept W H k refl
-grown-fits W H (Flip x y w h) k = mirrored-kept W H k refl .fits
+pub after-fits : (W H : ℕ) (c : Command) → reasonOf W H c ≡ done → heightAfter H c ≤ limit
+unfolding heightAfter
+after-fits W H (Rectangle x y w h c mode) k = rectangle-kept W H k refl .fits
+after-fits W H (Image x y w h sx sy c mode start size) k = stretched-kept W H k refl .put .fits
+after-fits W H (Margin m) k = margin-kept W H k refl
+after-fits W H (Flip x y w h) k = mirrored-kept W H k refl .fits

@@ -16,10 +16,10 @@ use Rattle.job.specs.declared.commands.Command.{Command}
 use Rattle.job.specs.declared.dropping.Dropped.{Dropped}
 use Rattle.job.specs.Records.{le32, recordAt, records, Bytes}
 use Rattle.job.specs.Commands.{soundPaper, soundCommand, soundCommands, soundRecords, sound, commandsStart, paperWidth, commandAt, commandsIn, afterPaper, commands}
-use Rattle.job.specs.Dropping.{mostCommands, numberOf, jobRefusal, refusal, grown, heightFrom, keptFrom, droppedFrom, jobHeight, keptOf, jobDropped}
+use Rattle.job.specs.Dropping.{mostCommands, numberOf, jobRefusal, reasonOf, heightAfter, heightFrom, keptFrom, droppedFrom, jobHeight, keptOf, jobDropped}
 use Rattle.job.proofs.Found.{found, records-record, records-end, records-bad, inside}
 use Rattle.job.proofs.Soundness.{paper, AllSane, all-sane}
-use Rattle.job.proofs.Reasons.{grown-fits}
+use Rattle.job.proofs.Reasons.{after-fits}
 use Rattle.job.proofs.Folds.{height-kept, kept-kept, dropped-kept, height-dropped, kept-dropped, dropped-dropped}
 
 -- the commands from a position on
@@ -217,7 +217,7 @@ module _ (s : List ℕ) (k at H : ℕ) (ks : List Command) (ds : List Dropped) (
     pub looked-few : k < mostCommands
     looked-few = omega (arith, one-more)
 
-    pub looked-kept : refusal (paperWidth s) H c ≡ done → Looked s (k + 1) nx (grown H c) (ks ++ (c ∷ [])) ds
+    pub looked-kept : reasonOf (paperWidth s) H c ≡ done → Looked s (k + 1) nx (heightAfter H c) (ks ++ (c ∷ [])) ds
     looked-kept r =
         let W = paperWidth s in
         record {
@@ -227,13 +227,13 @@ module _ (s : List ℕ) (k at H : ℕ) (ks : List Command) (ds : List Dropped) (
           kept = append-assoc ks (c ∷ []) _ ∙ ap (λ (l : List Command). ks ++ l) (sym (kept-kept W H c (rest s nx) r)) ∙ (rw here at (g .kept));
           dropped = ap (λ (l : List Dropped). ds ++ l) (sym (dropped-kept W H c (rest s nx) r k)) ∙ (rw here at (g .dropped));
           all = omega (arith, length-append ks (c ∷ []), g .all);
-          fits = grown-fits W H c r;
+          fits = after-fits W H c r;
         }
 
-    pub looked-dropped : (refusal (paperWidth s) H c ≡ done → ⊥) → Looked s (k + 1) nx H ks (ds ++ (record { place = k; reason = refusal (paperWidth s) H c } ∷ []))
+    pub looked-dropped : (reasonOf (paperWidth s) H c ≡ done → ⊥) → Looked s (k + 1) nx H ks (ds ++ (record { place = k; reason = reasonOf (paperWidth s) H c } ∷ []))
     looked-dropped r =
         let W = paperWidth s in
-        let d : Dropped = record { place = k; reason = refusal W H c } in
+        let d : Dropped = record { place = k; reason = reasonOf W H c } in
         record {
           left = left-next s at (g .left) e;
           count = omega (arith, one-more);

@@ -30,48 +30,48 @@ jobRefusal s = numberOf (sound s) (commands s)
 -- ---- a command
 
 -- a put of w·h pixels at (x, y): 2, 5, 8. With all its pixels and growth on it is never 6 or 7
-unfoldable pub putRefusal : ℕ → ℕ → ℕ → ℕ → ℕ → ℕ → ℕ
-putRefusal W H x y w h =
+unfoldable pub putReason : ℕ → ℕ → ℕ → ℕ → ℕ → ℕ → ℕ
+putReason W H x y w h =
     if ltb limit w || ltb limit h then tooLarge
     else if leb W x then offPaper
     else tallRefusal (max H (y + h))
 
 -- an image of w by h dots in `size` bytes of bit rows, stretched fx and fy times: its decoding's 2, 3 before its put's
-unfoldable pub imageRefusal : ℕ → ℕ → ℕ → ℕ → ℕ → ℕ → ℕ → ℕ → ℕ → ℕ
-imageRefusal W H x y w h fx fy size =
+unfoldable pub imageReason : ℕ → ℕ → ℕ → ℕ → ℕ → ℕ → ℕ → ℕ → ℕ → ℕ
+imageReason W H x y w h fx fy size =
     if isLarge w h fx fy then tooLarge
     else if not (eqb size (bytesOf Bits w h)) then wrongLength
-    else putRefusal W H x y (w * fx) (h * fy)
+    else putReason W H x y (w * fx) (h * fy)
 
 -- a flip: 10, 5, 8
-unfoldable pub flipRefusal : ℕ → ℕ → ℕ → ℕ → ℕ → ℕ → ℕ
-flipRefusal W H x y w h =
+unfoldable pub flipReason : ℕ → ℕ → ℕ → ℕ → ℕ → ℕ → ℕ
+flipReason W H x y w h =
     if eqb w 0 || eqb h 0 then emptyArea
     else if ltb W (x + w) then offPaper
     else tallRefusal (max H (y + h))
 
 -- the number for which a command is dropped, or 0. A margin: 8
-unfoldable pub refusal : ℕ → ℕ → Command → ℕ
-refusal W H (Rectangle x y w h c mode) = putRefusal W H x y w h
-refusal W H (Image x y w h sx sy c mode start size) = imageRefusal W H x y w h (factor sx) (factor sy) size
-refusal W H (Margin m) = tallRefusal (H + m)
-refusal W H (Flip x y w h) = flipRefusal W H x y w h
+unfoldable pub reasonOf : ℕ → ℕ → Command → ℕ
+reasonOf W H (Rectangle x y w h c mode) = putReason W H x y w h
+reasonOf W H (Image x y w h sx sy c mode start size) = imageReason W H x y w h (factor sx) (factor sy) size
+reasonOf W H (Margin m) = tallRefusal (H + m)
+reasonOf W H (Flip x y w h) = flipReason W H x y w h
 
 -- the height after a command that is kept
-unfoldable pub grown : ℕ → Command → ℕ
-grown H (Rectangle x y w h c mode) = max H (y + h)
-grown H (Image x y w h sx sy c mode start size) = max H (y + h * factor sy)
-grown H (Margin m) = H + m
-grown H (Flip x y w h) = max H (y + h)
+unfoldable pub heightAfter : ℕ → Command → ℕ
+heightAfter H (Rectangle x y w h c mode) = max H (y + h)
+heightAfter H (Image x y w h sx sy c mode start size) = max H (y + h * factor sy)
+heightAfter H (Margin m) = H + m
+heightAfter H (Flip x y w h) = max H (y + h)
 
 -- ---- one command after another
 
 abbrev pub kept : ℕ → ℕ → Command → Bool
-kept W H c = eqb (refusal W H c) done
+kept W H c = eqb (reasonOf W H c) done
 
 -- the height after a command: a dropped one changes nothing
 unfoldable pub next : ℕ → ℕ → Command → ℕ
-next W H c = if kept W H c then grown H c else H
+next W H c = if kept W H c then heightAfter H c else H
 
 unfoldable pub heightFrom : ℕ → ℕ → List Command → ℕ
 heightFrom W H [] = H
@@ -86,7 +86,7 @@ unfoldable pub droppedFrom : ℕ → ℕ → ℕ → List Command → List Dropp
 droppedFrom W H k [] = []
 droppedFrom W H k (c ∷ cs) =
     if kept W H c then droppedFrom W (next W H c) (k + 1) cs
-    else record { place = k; reason = refusal W H c } ∷ droppedFrom W (next W H c) (k + 1) cs
+    else record { place = k; reason = reasonOf W H c } ∷ droppedFrom W (next W H c) (k + 1) cs
 
 -- ---- the commands of the job s
 

@@ -41,15 +41,15 @@ pub data Records : Type 0 where
   rec : (kind start size : ℕ) → Records → Records
 
 -- one record, and what `rest` says of the position past it
-unfoldable pub one : (ℕ → Records) → Rec → Records
-one rest End = ended
-one rest Bad = broken
-one rest (Record kind start size next) = rec kind start size (rest next)
+unfoldable pub recordThen : (ℕ → Records) → Rec → Records
+recordThen rest End = ended
+recordThen rest Bad = broken
+recordThen rest (Record kind start size next) = rec kind start size (rest next)
 
 -- at most n records
 unfoldable pub upTo : ℕ → List ℕ → ℕ → Records
 upTo zero s at = ended
-upTo (suc n) s at = one (upTo n s) (recordAt s at)
+upTo (suc n) s at = recordThen (upTo n s) (recordAt s at)
 
 -- all of them, since none is shorter than a byte
 unfoldable pub records : List ℕ → ℕ → Records

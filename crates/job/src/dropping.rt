@@ -4,7 +4,7 @@ ghost use mathlib.Core.Path.{_≡_};
 ghost use Prim.Native.Nat.{_+_, _≤_, max};
 ghost use Rattle.numbers.specs.Numbers.{limit};
 ghost use Rattle.images.specs.Stretching.{factor};
-ghost use Rattle.job.specs.Dropping.{putRefusal, imageRefusal, flipRefusal, refusal, grown};
+ghost use Rattle.job.specs.Dropping.{putReason, imageReason, flipReason, reasonOf, heightAfter};
 use super::commands::Command;
 use images::Format;
 use images::bytes_of;
@@ -35,8 +35,8 @@ fn reached(height: u32, y: u32, h: u32) -> usize
     height as usize
 }
 
-fn put_refusal(width: u32, height: u32, x: u32, y: u32, w: u32, h: u32) -> u8
-    ensures { λ r. ⌜ r ≡ putRefusal width height x y w h ⌝ }
+fn put_reason(width: u32, height: u32, x: u32, y: u32, w: u32, h: u32) -> u8
+    ensures { λ r. ⌜ r ≡ putReason width height x y w h ⌝ }
 {
     if w > LIMIT {
         return TOO_LARGE;
@@ -50,7 +50,7 @@ fn put_refusal(width: u32, height: u32, x: u32, y: u32, w: u32, h: u32) -> u8
     tall_refusal(reached(height, y, h))
 }
 
-fn image_refusal(
+fn image_reason(
     width: u32,
     height: u32,
     x: u32,
@@ -61,7 +61,7 @@ fn image_refusal(
     stretch_y: u8,
     size: usize,
 ) -> u8
-    ensures { λ r. ⌜ r ≡ imageRefusal width height x y w h (factor «stretch_x») (factor «stretch_y») size ⌝ }
+    ensures { λ r. ⌜ r ≡ imageReason width height x y w h (factor «stretch_x») (factor «stretch_y») size ⌝ }
 {
     let fx = factor_of(stretch_x);
     let fy = factor_of(stretch_y);
@@ -71,11 +71,11 @@ fn image_refusal(
     if size != bytes_of(Format::Bits, w, h) {
         return WRONG_LENGTH;
     }
-    put_refusal(width, height, x, y, w * fx, h * fy)
+    put_reason(width, height, x, y, w * fx, h * fy)
 }
 
-fn flip_refusal(width: u32, height: u32, x: u32, y: u32, w: u32, h: u32) -> u8
-    ensures { λ r. ⌜ r ≡ flipRefusal width height x y w h ⌝ }
+fn flip_reason(width: u32, height: u32, x: u32, y: u32, w: u32, h: u32) -> u8
+    ensures { λ r. ⌜ r ≡ flipReason width height x y w h ⌝ }
 {
     if w == 0 {
         return EMPTY_AREA;
@@ -89,8 +89,8 @@ fn flip_refusal(width: u32, height: u32, x: u32, y: u32, w: u32, h: u32) -> u8
     tall_refusal(reached(height, y, h))
 }
 
-pub fn command_refusal(width: u32, height: u32, c: Command) -> u8
-    ensures { λ r. ⌜ r ≡ refusal width height c ⌝ }
+pub fn command_reason(width: u32, height: u32, c: Command) -> u8
+    ensures { λ r. ⌜ r ≡ reasonOf width height c ⌝ }
 {
     match c {
         Command::Rectangle {
@@ -100,7 +100,7 @@ pub fn command_refusal(width: u32, height: u32, c: Command) -> u8
             h,
             color: _,
             mode: _,
-        } => put_refusal(width, height, x, y, w, h),
+        } => put_reason(width, height, x, y, w, h),
         Command::Image {
             x,
             y,
@@ -112,16 +112,16 @@ pub fn command_refusal(width: u32, height: u32, c: Command) -> u8
             mode: _,
             start: _,
             size,
-        } => image_refusal(width, height, x, y, w, h, stretch_x, stretch_y, size),
+        } => image_reason(width, height, x, y, w, h, stretch_x, stretch_y, size),
         Command::Margin(m) => tall_refusal(height as usize + m as usize),
-        Command::Flip { x, y, w, h } => flip_refusal(width, height, x, y, w, h),
+        Command::Flip { x, y, w, h } => flip_reason(width, height, x, y, w, h),
     }
 }
 
 // A command that is kept leaves a height within the limit.
 pub fn height_after(height: u32, c: Command) -> u32
-    requires { ⌜ grown height c ≤ limit ⌝ }
-    ensures { λ r. ⌜ r ≡ grown height c ⌝ }
+    requires { ⌜ heightAfter height c ≤ limit ⌝ }
+    ensures { λ r. ⌜ r ≡ heightAfter height c ⌝ }
 {
     match c {
         Command::Rectangle {

@@ -146,6 +146,10 @@ pub record Flips (t : ThermalImage) (x y w h rows n : ℕ) : Type 0 where
   pub down : y + h ≤ rows
   pub grows : growRefusal (t .width) (t .height) rows n ≡ done
 
+pub flip-tall : (t : ThermalImage) (y h : ℕ) → flipTall t y h ≡ max (t .height) (y + h)
+unfolding flipTall
+flip-tall t y h = refl
+
 pub flip-done : (t : ThermalImage) (x y w h n : ℕ) {rows : ℕ} → rows ≡ flipTall t y h → flipRefusal t x y w h n ≡ done → Flips t x y w h rows n
 unfolding flipRefusal flipTall
 flip-done t x y w h n {rows} er e =

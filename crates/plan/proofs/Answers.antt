@@ -13,13 +13,13 @@ use Rattle.images.specs.Stretching.{factor}
 use Rattle.job.specs.declared.commands.Command.{Command}
 use Rattle.job.specs.declared.commands.Command.the-variants.{Rectangle, Image, Flip}
 use Rattle.job.specs.Commands.{commands}
-use Rattle.job.specs.Dropping.{refusal, jobRefusal}
+use Rattle.job.specs.Dropping.{reasonOf, jobRefusal}
 use Rattle.entries.specs.declared.Entry.{Entry}
 use Rattle.plan.specs.declared.Plan.{Plan}
 use Rattle.plan.specs.declared.Translated.{Translated}
 use Rattle.entries.specs.Entries.{rectangleEntry, imageEntry}
 use Rattle.plan.specs.Plan.{lower, noEntry, planWith, planOf, hasFlip, translateRefusal, translated}
-use Rattle.plan.specs.Steps.{lowered, withEntries, pushed, leftOut, planned, stepped}
+use Rattle.plan.specs.Steps.{loweredEntries, withEntries, pushed, leftOut, planned, stepped}
 use Rattle.plan.proofs.Listed.{set-lowered}
 
 -- ---- an entry pushed
@@ -49,26 +49,26 @@ image-end W x y w h fx fy c m start q l = rw q l
 
 -- ---- entries moved down
 
-pub lower-step : {p : Plan} (p₀ : Plan) (h n m i : ℕ) → p ≡ withEntries p₀ h n (lowered m i (p₀ .entries))
-    → withEntries p (p .height) (p .count) (set (p .entries) i (lower m (getD (p .entries) i noEntry))) ≡ withEntries p₀ h n (lowered m (i + 1) (p₀ .entries))
+pub lower-step : {p : Plan} (p₀ : Plan) (h n m i : ℕ) → p ≡ withEntries p₀ h n (loweredEntries m i (p₀ .entries))
+    → withEntries p (p .height) (p .count) (set (p .entries) i (lower m (getD (p .entries) i noEntry))) ≡ withEntries p₀ h n (loweredEntries m (i + 1) (p₀ .entries))
 lower-step {p} p₀ h n m i e = rw (e, add-one, ← set-lowered m i (p₀ .entries)) refl
 
 -- ---- a step
 
-module _ (p : Plan) (k : ℕ) (d : Command) {why : ℕ} (e : why ≡ refusal (p .width) (p .height) d) where
+module _ (p : Plan) (k : ℕ) (d : Command) {why : ℕ} (e : why ≡ reasonOf (p .width) (p .height) d) where
   pub step-out : (why ≡ done → ⊥) → {r : Plan} → r ≡ leftOut p k why → r ≡ stepped p k d
   unfolding stepped
-  step-out n g = g ∙ rw (ne-eqb (refusal (p .width) (p .height) d) done (λ z. n (e ∙ z)), e)
+  step-out n g = g ∙ rw (ne-eqb (reasonOf (p .width) (p .height) d) done (λ z. n (e ∙ z)), e)
 
   pub step-in : why ≡ done → {r : Plan} {d' : Command} → d ≡ d' → r ≡ planned p d' → r ≡ stepped p k d
   unfolding stepped
-  step-in z q g = g ∙ rw (eq-eqb (refusal (p .width) (p .height) d) done (sym e ∙ z), q)
+  step-in z q g = g ∙ rw (eq-eqb (reasonOf (p .width) (p .height) d) done (sym e ∙ z), q)
 
   pub step-flip : why ≡ done → {x y w h : ℕ} → d ≡ Flip x y w h → p ≡ stepped p k d
   unfolding stepped planned
-  step-flip z q = rw (eq-eqb (refusal (p .width) (p .height) d) done (sym e ∙ z), q)
+  step-flip z q = rw (eq-eqb (reasonOf (p .width) (p .height) d) done (sym e ∙ z), q)
 
-  pub kept-of : why ≡ done → refusal (p .width) (p .height) d ≡ done
+  pub kept-of : why ≡ done → reasonOf (p .width) (p .height) d ≡ done
   kept-of z = sym e ∙ z
 
 -- ---- the answer of a translation

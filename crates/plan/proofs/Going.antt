@@ -17,7 +17,7 @@ use Rattle.job.specs.declared.commands.Command.{Command}
 use Rattle.job.specs.declared.commands.Command.the-variants.{Rectangle, Image, Margin, Flip}
 use Rattle.job.specs.Records.{recordAt}
 use Rattle.job.specs.Commands.{rectangleKind, imageKind, marginKind, flipKind, flipSize, soundCommand, commandsStart, paperWidth, paperColor, commandAt, commands}
-use Rattle.job.specs.Dropping.{refusal, grown, kept, padded}
+use Rattle.job.specs.Dropping.{reasonOf, heightAfter, kept, padded}
 use Rattle.job.proofs.Walk.{rest, rest-record, rest-end, Good, Left, left-start, left-sound, left-next, left-bad, Looked, looked-start, looked-few, looked-kept, looked-dropped, looked-end}
 use Rattle.entries.specs.declared.Entry.{Entry}
 use Rattle.plan.specs.declared.Plan.{Plan}
@@ -29,12 +29,12 @@ use Rattle.plan.proofs.Listed.{lower-none, entries-more, entries-margin
 -- ---- a command that is kept, on the record
 
 record After (W : ℕ) (paper : RGBA) (H : ℕ) (ks : List Command) (ds : List Dropped) (c : Command) : Type 0 where
-  same : planned (planWith W paper H (entriesOf W ks) ds) c ≡ planWith W paper (grown H c) (entriesOf W (ks ++ (c ∷ []))) ds
-  low : Low (grown H c) (entriesOf W (ks ++ (c ∷ [])))
+  same : planned (planWith W paper H (entriesOf W ks) ds) c ≡ planWith W paper (heightAfter H c) (entriesOf W (ks ++ (c ∷ []))) ds
+  low : Low (heightAfter H c) (entriesOf W (ks ++ (c ∷ [])))
 
 module _ (W : ℕ) (paper : RGBA) (H : ℕ) (ks : List Command) (ds : List Dropped) (few : length ks < 64) (l : Low H (entriesOf W ks)) where
   after : (c : Command) → isFlip c ≡ false → After W paper H ks ds c
-  unfolding planned isFlip grown
+  unfolding planned isFlip heightAfter
   after (Rectangle x y w h c m) f =
       let d : Command = Rectangle x y w h c m in
       let n : Entry = rectangleEntry W x y w h c m in
@@ -108,7 +108,7 @@ module _ (s : List ℕ) (p : Plan) (k at : ℕ) (g : Going s p k at) where
           let h = going-few in
           let a = after (paperWidth s) (paperColor s) (g .H) (g .ks) (g .ds) (omega (arith, g .looked .all)) (g .low) c (flips .0) in
           record {
-            H = grown (g .H) c;
+            H = heightAfter (g .H) c;
             ks = g .ks ++ (c ∷ []);
             ds = g .ds;
             looked = looked-kept s k at (g .H) (g .ks) (g .ds) (g .looked) e q d;
@@ -122,9 +122,9 @@ module _ (s : List ℕ) (p : Plan) (k at : ℕ) (g : Going s p k at) where
           record {
             H = g .H;
             ks = g .ks;
-            ds = g .ds ++ (record { place = k; reason = refusal (paperWidth s) (g .H) c } ∷ []);
+            ds = g .ds ++ (record { place = k; reason = reasonOf (paperWidth s) (g .H) c } ∷ []);
             looked = looked-dropped s k at (g .H) (g .ks) (g .ds) (g .looked) e q d;
-            same = r ∙ rw (g .same, z) (drop-with (paperWidth s) (paperColor s) (g .H) (entriesOf (paperWidth s) (g .ks)) (g .ds) k (refusal (paperWidth s) (g .H) c) (omega (arith, g .looked .all)));
+            same = r ∙ rw (g .same, z) (drop-with (paperWidth s) (paperColor s) (g .H) (entriesOf (paperWidth s) (g .ks)) (g .ds) k (reasonOf (paperWidth s) (g .H) c) (omega (arith, g .looked .all)));
             low = g .low;
             plain = flips .1;
           }

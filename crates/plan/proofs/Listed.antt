@@ -1,5 +1,5 @@
 -- The entries of the commands kept so far, one command more; and lists in a plan's record. Assumes nothing.
-use Prim.Native.Nat.{ℕ, zero, suc, _+_, _-_, _≤_, _<_, max}
+use Prim.Native.Nat.{ℕ, zero, suc, _+_, _≤_, _<_, max}
 use mathlib.Core.Path.{_≡_, refl, ap, sym, _∙_}
 use mathlib.Core.List.{List, [], _∷_, _++_}
 use native.Mathlib.Nat.{add-assoc, add-zero, le-of-suc-le-suc, not-suc-le-zero}
@@ -13,7 +13,7 @@ use Rattle.job.specs.Dropping.{noDropped, padded}
 use Rattle.job.proofs.Folds.{padded-more}
 use Rattle.entries.specs.declared.Entry.{Entry}
 use Rattle.plan.specs.Plan.{lower, margins, entriesOf, noEntry, planWith}
-use Rattle.plan.specs.Steps.{lowered, pushed, shifted, leftOut}
+use Rattle.plan.specs.Steps.{loweredEntries, pushed, shifted, leftOut}
 
 -- ---- one command more
 
@@ -86,8 +86,8 @@ unfolding down
 length-down m [] = refl
 length-down m (e ∷ es) = ap suc (length-down m es)
 
-lowered-down : (m : ℕ) (es fs : List Entry) → lowered m (length es) (es ++ fs) ≡ down m es ++ fs
-unfolding lowered down
+lowered-down : (m : ℕ) (es fs : List Entry) → loweredEntries m (length es) (es ++ fs) ≡ down m es ++ fs
+unfolding loweredEntries down
 lowered-down m [] fs = refl
 lowered-down m (e ∷ es) fs = ap (λ (l : List Entry). lower m e ∷ l) (lowered-down m es fs)
 
@@ -104,14 +104,14 @@ module _ (W : ℕ) (paper : RGBA) (H : ℕ) (es : List Entry) (ds : List Dropped
 
 -- ---- entries moved down, one by one
 
-pub getD-lowered : (m i : ℕ) (es : List Entry) → getD (lowered m i es) i noEntry ≡ getD es i noEntry
-unfolding lowered
+pub getD-lowered : (m i : ℕ) (es : List Entry) → getD (loweredEntries m i es) i noEntry ≡ getD es i noEntry
+unfolding loweredEntries
 getD-lowered m zero es = refl
 getD-lowered m (suc i) [] = refl
 getD-lowered m (suc i) (e ∷ es) = getD-lowered m i es
 
-pub set-lowered : (m i : ℕ) (es : List Entry) → set (lowered m i es) i (lower m (getD (lowered m i es) i noEntry)) ≡ lowered m (suc i) es
-unfolding lowered
+pub set-lowered : (m i : ℕ) (es : List Entry) → set (loweredEntries m i es) i (lower m (getD (loweredEntries m i es) i noEntry)) ≡ loweredEntries m (suc i) es
+unfolding loweredEntries
 set-lowered m zero [] = refl
 set-lowered m zero (e ∷ es) = refl
 set-lowered m (suc i) [] = refl

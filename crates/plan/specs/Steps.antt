@@ -7,17 +7,17 @@ use Rattle.colour.specs.Choice.{if_then_else_}
 use Rattle.images.specs.Stretching.{factor}
 use Rattle.job.specs.declared.commands.Command.{Command}
 use Rattle.job.specs.declared.commands.Command.the-variants.{Rectangle, Image, Margin, Flip}
-use Rattle.job.specs.Dropping.{mostCommands, refusal, kept}
+use Rattle.job.specs.Dropping.{mostCommands, reasonOf, kept}
 use Rattle.entries.specs.declared.Entry.{Entry}
 use Rattle.plan.specs.declared.Plan.{Plan}
 use Rattle.entries.specs.Entries.{rectangleEntry, imageEntry}
 use Rattle.plan.specs.Plan.{lower, noEntry}
 
 -- the first n entries m rows further down
-unfoldable pub lowered : ℕ → ℕ → List Entry → List Entry
-lowered m zero es = es
-lowered m (suc n) [] = []
-lowered m (suc n) (e ∷ es) = lower m e ∷ lowered m n es
+unfoldable pub loweredEntries : ℕ → ℕ → List Entry → List Entry
+loweredEntries m zero es = es
+loweredEntries m (suc n) [] = []
+loweredEntries m (suc n) (e ∷ es) = lower m e ∷ loweredEntries m n es
 
 abbrev pub withEntries : Plan → ℕ → ℕ → List Entry → Plan
 withEntries p height count es = record {
@@ -36,7 +36,7 @@ pushed p e = withEntries p (max (p .height) (e .y + e .h)) (p .count + 1) (set (
 
 -- a margin of m rows
 abbrev pub shifted : Plan → ℕ → Plan
-shifted p m = withEntries p (p .height + m) (p .count) (lowered m (p .count) (p .entries))
+shifted p m = withEntries p (p .height + m) (p .count) (loweredEntries m (p .count) (p .entries))
 
 -- one dropped command more
 abbrev pub leftOut : Plan → ℕ → ℕ → Plan
@@ -57,7 +57,7 @@ planned p (Margin m) = shifted p m
 planned p (Flip x y w h) = p
 
 unfoldable pub stepped : Plan → ℕ → Command → Plan
-stepped p k c = if kept (p .width) (p .height) c then planned p c else leftOut p k (refusal (p .width) (p .height) c)
+stepped p k c = if kept (p .width) (p .height) c then planned p c else leftOut p k (reasonOf (p .width) (p .height) c)
 
 -- ---- when a step may be taken
 

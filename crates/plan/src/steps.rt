@@ -64,7 +64,7 @@ pub(crate) fn step(p: Plan, k: u32, c: Command) -> Plan
     requires { ⌜ Ready p ⌝ }
     ensures { λ r. ⌜ r ≡ stepped p k c ⌝ }
 {
-    let why = job::command_refusal(p.width, p.height, c);
+    let why = job::command_reason(p.width, p.height, c);
     if why != DONE {
         return leave_out(p, k, why);
     }

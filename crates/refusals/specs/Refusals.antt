@@ -45,7 +45,7 @@ growRefusal W H height n = first (first (unsound W H n) (tallRefusal height)) (r
 unfoldable pub marginRefusal : ℕ → ℕ → ℕ → ℕ → ℕ
 marginRefusal W H rows n = first (first (unsound W H n) (tallRefusal (H + rows))) (roomRefusal W (H + rows) n)
 
--- setting the width: 9, 2
+-- setting the width: 9, 2. 1 cannot arise, since no byte is asked for
 unfoldable pub widthRefusal : ℕ → ℕ → ℕ → ℕ → ℕ
 widthRefusal W H new n = first (unsound W H n) (wideRefusal new)
 

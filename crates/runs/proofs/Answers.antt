@@ -12,14 +12,13 @@ use Rattle.numbers.proofs.Sides.{area}
 use Rattle.colour.specs.Choice.{if_then_else_}
 use Rattle.colour.specs.declared.RGBA.{RGBA}
 use Rattle.dots.specs.Dots.{change, within}
-use Rattle.dots.proofs.Laws.{length-change, run-none}
 use Rattle.images.specs.Stretching.{factor}
 use Rattle.areas.specs.Areas.{Fits, flippedOn}
 use Rattle.moves.specs.Moves.{loweredOn}
 use Rattle.job.specs.declared.commands.Command.{Command}
 use Rattle.job.specs.declared.commands.Command.the-variants.{Rectangle, Image, Margin, Flip}
 use Rattle.job.specs.Commands.{paperWidth, paperColor}
-use Rattle.job.specs.Dropping.{refusal, grown, next, jobRefusal, jobHeight, jobDropped}
+use Rattle.job.specs.Dropping.{reasonOf, heightAfter, next, jobRefusal, jobHeight, jobDropped}
 use Rattle.job.proofs.Soundness.{sane-rectangle, sane-image, Held}
 use Rattle.job.proofs.Reasons.{rectangle-kept, stretched-kept}
 use Rattle.entries.specs.declared.Entry.{Entry}
@@ -27,6 +26,7 @@ use Rattle.entries.specs.Entries.{rectangleEntry, imageEntry, goodEntry, entryR
 use Rattle.entries.proofs.Good.{rectangle-good, image-good}
 use Rattle.refusals.specs.Refusals.{first, roomRefusal}
 use Rattle.thermal_image.specs.Canvas.{canvas, written, papered}
+use Rattle.thermal_image.proofs.Paper.{length-papered, papered-none, papered-run}
 use Rattle.runs.specs.declared.Ran.{Ran}
 use Rattle.runs.specs.declared.survey.Survey.{Survey}
 use Rattle.runs.specs.Pictures.{shown}
@@ -35,28 +35,23 @@ use Rattle.runs.specs.Steps.{surveyWith, leftOut, reached, seen, placedO
 
 -- ---- the survey
 
-module _ (W : ℕ) (v : Survey) (k : ℕ) (d : Command) {why : ℕ} (e : why ≡ refusal W (v .height) d) where
+module _ (W : ℕ) (v : Survey) (k : ℕ) (d : Command) {why : ℕ} (e : why ≡ reasonOf W (v .height) d) where
   pub seen-out : (why ≡ done → ⊥) → {r : Survey} → r ≡ leftOut v k why → r ≡ seen W v k d
   unfolding seen
-  seen-out n g = g ∙ rw (ne-eqb (refusal W (v .height) d) done (λ z. n (e ∙ z)), e)
+  seen-out n g = g ∙ rw (ne-eqb (reasonOf W (v .height) d) done (λ z. n (e ∙ z)), e)
 
-  pub seen-in : why ≡ done → {h : ℕ} → h ≡ grown (v .height) d → reached v h ≡ seen W v k d
+  pub seen-in : why ≡ done → {h : ℕ} → h ≡ heightAfter (v .height) d → reached v h ≡ seen W v k d
   unfolding seen
-  seen-in z g = rw (eq-eqb (refusal W (v .height) d) done (sym e ∙ z), g) refl
+  seen-in z g = rw (eq-eqb (reasonOf W (v .height) d) done (sym e ∙ z), g) refl
 
 -- ---- growing
 
 module _ (W : ℕ) (paper : RGBA) (H end : ℕ) (l : List ℕ) where
   pub grow-none : end ≤ H → (H ≡ max H end) × (l ≡ papered W H (max H end) paper l)
-  unfolding papered
-  grow-none h = let e : H ≡ max H end = omega arith in (e, rw (← e) (run-none (W * H) _ l))
+  grow-none h = let e : H ≡ max H end = omega arith in (e, rw (← e) (papered-none W H paper l))
 
   pub grow-some : H < end → {m : List ℕ} → m ≡ change (within (W * H) (W * H + (W * end - W * H))) (λ _ _. paper) l → (end ≡ max H end) × (m ≡ papered W H (max H end) paper l)
-  unfolding papered
-  grow-some h g =
-      let e : end ≡ max H end = omega arith in
-      let t : W * H + (W * end - W * H) ≡ W * end = omega (arith, mul-le-mul-left W h) in
-      (e, g ∙ rw (t, ← e) refl)
+  grow-some h g = let e : end ≡ max H end = omega arith in (e, papered-run W H end paper l e g)
 
   pub grow-asks : {n : ℕ} → Room W (max H end) n → H < end → (W * H + (W * end - W * H)) * 4 ≤ n
   grow-asks r h =
@@ -67,13 +62,12 @@ module _ (W : ℕ) (paper : RGBA) (H end : ℕ) (l : List ℕ) where
 -- ---- an entry placed
 
 pub place-asks : (W H y h : ℕ) (paper : RGBA) (l : List ℕ) {b : List ℕ} → Room W (max H (y + h)) (length l) → b ≡ papered W H (max H (y + h)) paper l → Placed W y y h (length b)
-unfolding papered
 place-asks W H y h paper l r e =
     record {
       some = r .some;
       wide = r .wide;
       last = omega (arith, r .tall);
-      room = rw (e, length-change _ _ l) (omega (arith, r .room, mul-le-mul-left W (below H (y + h)), mul-comm W (y + h)));
+      room = rw (e, length-papered W H (max H (y + h)) paper l) (omega (arith, r .room, mul-le-mul-left W (below H (y + h)), mul-comm W (y + h)));
     }
   where
     below : (a b : ℕ) → b ≤ max a b
@@ -89,47 +83,47 @@ place-answers s W paper H e l g f = f ∙ rw g refl
 module _ (s : List ℕ) (W : ℕ) (paper : RGBA) (H : ℕ) (l : List ℕ) {r : ℕ} {m : List ℕ} where
   module _ {e : Entry} (g : r ≡ max H (e .y + e .h)) (f : m ≡ placedOn s W paper H e l) where
     pub rectangle-obeyed : (x y w h : ℕ) (c : RGBA) (mode : ℕ) → e ≡ rectangleEntry W x y w h c mode
-        → (r ≡ grown H (Rectangle x y w h c mode)) × (m ≡ obeyedOn s W paper H (Rectangle x y w h c mode) l)
-    unfolding grown obeyedOn rectangleEntry
+        → (r ≡ heightAfter H (Rectangle x y w h c mode)) × (m ≡ obeyedOn s W paper H (Rectangle x y w h c mode) l)
+    unfolding heightAfter obeyedOn rectangleEntry
     rectangle-obeyed x y w h c mode q = (g ∙ rw q refl, f ∙ rw q refl)
 
     pub image-obeyed : (x y w h sx sy : ℕ) (c : RGBA) (mode start size : ℕ) → e ≡ imageEntry W x y w h (factor sx) (factor sy) c mode start
-        → (r ≡ grown H (Image x y w h sx sy c mode start size)) × (m ≡ obeyedOn s W paper H (Image x y w h sx sy c mode start size) l)
-    unfolding grown obeyedOn imageEntry
+        → (r ≡ heightAfter H (Image x y w h sx sy c mode start size)) × (m ≡ obeyedOn s W paper H (Image x y w h sx sy c mode start size) l)
+    unfolding heightAfter obeyedOn imageEntry
     image-obeyed x y w h sx sy c mode start size q = (g ∙ rw q refl, f ∙ rw q refl)
 
-  pub margin-obeyed : (n : ℕ) → r ≡ H + n → m ≡ loweredOn (W * H) (W * n) paper l → (r ≡ grown H (Margin n)) × (m ≡ obeyedOn s W paper H (Margin n) l)
-  unfolding grown obeyedOn
+  pub margin-obeyed : (n : ℕ) → r ≡ H + n → m ≡ loweredOn (W * H) (W * n) paper l → (r ≡ heightAfter H (Margin n)) × (m ≡ obeyedOn s W paper H (Margin n) l)
+  unfolding heightAfter obeyedOn
   margin-obeyed n g f = (g, f)
 
   pub flip-obeyed : (x y w h : ℕ) → r ≡ max H (y + h) → {b : List ℕ} → b ≡ papered W H (max H (y + h)) paper l → m ≡ flippedOn W x y w h b
-      → (r ≡ grown H (Flip x y w h)) × (m ≡ obeyedOn s W paper H (Flip x y w h) l)
-  unfolding grown obeyedOn
+      → (r ≡ heightAfter H (Flip x y w h)) × (m ≡ obeyedOn s W paper H (Flip x y w h) l)
+  unfolding heightAfter obeyedOn
   flip-obeyed x y w h g e f = (g, f ∙ rw e refl)
 
-module _ (s : List ℕ) (W : ℕ) (paper : RGBA) (H : ℕ) (l : List ℕ) (d : Command) {why : ℕ} (e : why ≡ refusal W H d) where
+module _ (s : List ℕ) (W : ℕ) (paper : RGBA) (H : ℕ) (l : List ℕ) (d : Command) {why : ℕ} (e : why ≡ reasonOf W H d) where
   pub step-out : (why ≡ done → ⊥) → (H ≡ next W H d) × (l ≡ steppedOn s W paper H d l)
   unfolding next steppedOn
-  step-out n = rw (ne-eqb (refusal W H d) done (λ z. n (e ∙ z))) (refl, refl)
+  step-out n = rw (ne-eqb (reasonOf W H d) done (λ z. n (e ∙ z))) (refl, refl)
 
   module _ (z : why ≡ done) where
-    pub kept-of : refusal W H d ≡ done
+    pub kept-of : reasonOf W H d ≡ done
     kept-of = sym e ∙ z
 
     -- the room that was asked for is that of the height after the command
-    kept-room : {n : ℕ} → Room W (next W H d) n → Room W (grown H d) n
+    kept-room : {n : ℕ} → Room W (next W H d) n → Room W (heightAfter H d) n
     unfolding next
-    kept-room r = rw (eq-eqb (refusal W H d) done kept-of) at r
+    kept-room r = rw (eq-eqb (reasonOf W H d) done kept-of) at r
 
-    pub step-in : {d' : Command} → d ≡ d' → {h : ℕ} {m : List ℕ} → (h ≡ grown H d') × (m ≡ obeyedOn s W paper H d' l) → (h ≡ next W H d) × (m ≡ steppedOn s W paper H d l)
+    pub step-in : {d' : Command} → d ≡ d' → {h : ℕ} {m : List ℕ} → (h ≡ heightAfter H d') × (m ≡ obeyedOn s W paper H d' l) → (h ≡ next W H d) × (m ≡ steppedOn s W paper H d l)
     unfolding next steppedOn
-    step-in q g = rw (eq-eqb (refusal W H d) done kept-of, q) g
+    step-in q g = rw (eq-eqb (reasonOf W H d) done kept-of, q) g
 
     module _ {n : ℕ} (r : Room W (next W H d) n) where
       -- what an entry asks for
       pub rectangle-asks : {x y w h mode : ℕ} {c : RGBA} → d ≡ Rectangle x y w h c mode → Held s d → {f : Entry} → f ≡ rectangleEntry W x y w h c mode
           → Room W (max H (f .y + f .h)) n × (goodEntry W limit (length s) f ≡ true)
-      unfolding grown rectangleEntry
+      unfolding heightAfter rectangleEntry
       rectangle-asks {x} {y} {w} {h} {mode} {c} q a p =
           let k = rectangle-kept W H kept-of q in
           rw p (rw q at (kept-room r), rectangle-good W limit (length s) x y w h c mode (k .on) (mode-of (rw q at a)) (omega (arith, k .fits)))
@@ -139,7 +133,7 @@ module _ (s : List ℕ) (W : ℕ) (paper : RGBA) (H : ℕ) (l : List ℕ) (d : C
 
       pub image-asks : {x y w h sx sy mode start size : ℕ} {c : RGBA} → d ≡ Image x y w h sx sy c mode start size → Held s d → sx ≤ 255 → sy ≤ 255
           → {f : Entry} → f ≡ imageEntry W x y w h (factor sx) (factor sy) c mode start → Room W (max H (f .y + f .h)) n × (goodEntry W limit (length s) f ≡ true)
-      unfolding grown imageEntry
+      unfolding heightAfter imageEntry
       image-asks {x} {y} {w} {h} {sx} {sy} {mode} {start} {size} {c} q a bx by p =
           let k = stretched-kept W H kept-of q in
           let g = part-of (rw q at a) in
@@ -150,11 +144,11 @@ module _ (s : List ℕ) (W : ℕ) (paper : RGBA) (H : ℕ) (l : List ℕ) (d : C
           part-of (sane-image b px py room) = (b, room)
 
       pub margin-room : {m : ℕ} → d ≡ Margin m → Room W (H + m) n
-      unfolding grown
+      unfolding heightAfter
       margin-room q = rw q at (kept-room r)
 
       pub flip-room : {x y w h : ℕ} → d ≡ Flip x y w h → Room W (max H (y + h)) n
-      unfolding grown
+      unfolding heightAfter
       flip-room q = rw q at (kept-room r)
 
 -- a margin's and a flip's room, as the moves and areas ask for it

@@ -13,8 +13,8 @@ use Rattle.numbers.specs.Numbers.{done}
 use Rattle.colour.specs.Choice.{if_then_else_}
 use Rattle.colour.specs.declared.RGBA.{RGBA}
 use Rattle.colour.specs.Colour.{blended}
-use Rattle.dots.specs.Dots.{dotAt, change, within}
-use Rattle.dots.proofs.Laws.{below, within-yes, within-low, within-high, length-change, change-picked, change-kept}
+use Rattle.dots.specs.Dots.{dotAt}
+use Rattle.dots.proofs.Laws.{below}
 use Rattle.images.specs.Stretching.{factor}
 use Rattle.areas.specs.Areas.{inArea, flippedOn}
 use Rattle.areas.proofs.Laws.{in-area, in-area-true, not-in-area, length-area, area-dot, area-past}
@@ -22,10 +22,11 @@ use Rattle.moves.specs.Moves.{loweredOn}
 use Rattle.moves.proofs.Laws.{length-lowered, lowered-paper, lowered-dot, lowered-past}
 use Rattle.job.specs.declared.commands.Command.{Command}
 use Rattle.job.specs.declared.commands.Command.the-variants.{Rectangle, Image, Margin, Flip}
-use Rattle.job.specs.Dropping.{refusal, grown}
+use Rattle.job.specs.Dropping.{reasonOf, heightAfter}
 use Rattle.entries.specs.declared.Entry.{Entry}
 use Rattle.entries.specs.Entries.{rectangleEntry, imageEntry, entryOn, entryRows}
 use Rattle.thermal_image.specs.Canvas.{papered}
+use Rattle.thermal_image.proofs.Paper.{length-papered, papered-kept, papered-past, papered-new}
 use Rattle.runs.specs.Pictures.{Picture, withImage, withMargin, withMirror, after, shown}
 use Rattle.runs.specs.Steps.{placedOn, obeyedOn}
 use Rattle.runs.proofs.Pictures.{rectangle-after, image-after, dot-before, dot-from, length-shown, shown-past, shown-dot, shown-ext}
@@ -42,19 +43,18 @@ module _ (W : ℕ) (some : 0 < W) (l : List ℕ) where
 
   -- growing shows more of the paper
   pub shown-grown : (paper : RGBA) (p : Picture) (H H' : ℕ) → Bare paper H p → H ≤ H' → W * H' * 4 ≤ length l → papered W H H' paper (shown W H p l) ≡ shown W H' p l
-  unfolding papered
   shown-grown paper p H H' bare h r =
       let m = mul-le-mul-left W h in
-      shown-ext W H' p l r _ some (length-change _ _ _ ∙ length-shown W H p l) (λ i j a b. at i j a b (below j H))
-      (λ k c. change-kept _ _ _ k (within-high _ _ k c) ∙ shown-past W H p l k (omega arith))
+      shown-ext W H' p l r _ some (length-papered W H H' paper _ ∙ length-shown W H p l) (λ i j a b. at i j a b (below j H))
+      (λ k c. papered-past W H H' paper _ k c ∙ shown-past W H p l k (omega arith))
     where
-      at : (i j : ℕ) → i < W → j < H' → (j < H) ⊎ (H ≤ j) → dotAt (change (within (W * H) (W * H')) (λ _ _. paper) (shown W H p l)) (j * W + i) ≡ p i j
+      at : (i j : ℕ) → i < W → j < H' → (j < H) ⊎ (H ≤ j) → dotAt (papered W H H' paper (shown W H p l)) (j * W + i) ≡ p i j
       at i j a b (inl c) =
           let k = dot-before {H = H} a c in
-          change-kept _ _ _ _ (within-low _ _ (j * W + i) k) ∙ shown-dot W H p l (omega (arith, mul-le-mul-left W h)) i j a c
+          papered-kept W H H' paper _ (j * W + i) k ∙ shown-dot W H p l (omega (arith, mul-le-mul-left W h)) i j a c
       at i j a b (inr c) =
           let k = dot-before {H = H'} a b in
-          change-picked _ _ _ _ (within-yes _ _ (j * W + i) (dot-from W i c) k) (omega (arith, length-shown W H p l)) ∙ sym (bare i j c)
+          papered-new W H H' paper _ (j * W + i) (dot-from W i c) k (omega (arith, length-shown W H p l)) ∙ sym (bare i j c)
 
   module _ (H : ℕ) (p : Picture) (r : W * H * 4 ≤ length l) where
     room : {i j : ℕ} → i < W → j < H → (j * W + i) * 4 + 4 ≤ length (shown W H p l)
@@ -119,8 +119,8 @@ module _ (W : ℕ) (some : 0 < W) (l : List ℕ) where
 -- ---- a command obeyed on a canvas that shows p: it shows the picture after it, which is paper below the new height
 
 pub record Obeyed (s : List ℕ) (W : ℕ) (paper : RGBA) (H : ℕ) (p : Picture) (l : List ℕ) (c : Command) : Type 0 where
-  pub bytes : obeyedOn s W paper H c (shown W H p l) ≡ shown W (grown H c) (after s paper c p) l
-  pub bare : Bare paper (grown H c) (after s paper c p)
+  pub bytes : obeyedOn s W paper H c (shown W H p l) ≡ shown W (heightAfter H c) (after s paper c p) l
+  pub bare : Bare paper (heightAfter H c) (after s paper c p)
 
 module _ (s : List ℕ) (W : ℕ) (some : 0 < W) (paper : RGBA) (H : ℕ) (p : Picture) (l : List ℕ) (bare : Bare paper H p) where
   -- an entry that does to each dot on the paper what the command does
@@ -137,8 +137,8 @@ module _ (s : List ℕ) (W : ℕ) (some : 0 < W) (paper : RGBA) (H : ℕ) (p : P
   unfolding withImage
   below-image x y w h mode H' pixel a b i j c = rw (not-in-area x y w h i j (λ _ _ _ d. omega arith)) (bare i j (omega arith))
 
-  pub obeyed : (c : Command) → refusal W H c ≡ done → W * grown H c * 4 ≤ length l → Obeyed s W paper H p l c
-  unfolding obeyedOn grown
+  pub obeyed : (c : Command) → reasonOf W H c ≡ done → W * heightAfter H c * 4 ≤ length l → Obeyed s W paper H p l c
+  unfolding obeyedOn heightAfter
   obeyed (Rectangle x y w h c mode) k r =
       record {
         bytes = unfold rectangleEntry in (placed (rectangleEntry W x y w h c mode) _ (λ i j a. rectangle-after s paper W p i j a x y w h c mode) r);

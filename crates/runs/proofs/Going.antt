@@ -16,7 +16,7 @@ use Rattle.job.specs.declared.dropping.Dropped.{Dropped}
 use Rattle.job.specs.declared.commands.Command.{Command}
 use Rattle.job.specs.Records.{recordAt}
 use Rattle.job.specs.Commands.{soundCommand, commandsStart, paperWidth, paperColor, commandAt, commands}
-use Rattle.job.specs.Dropping.{mostCommands, refusal, grown, kept, next, heightFrom, jobHeight, jobDropped, noDropped}
+use Rattle.job.specs.Dropping.{mostCommands, reasonOf, heightAfter, kept, next, heightFrom, jobHeight, jobDropped, noDropped}
 use Rattle.job.proofs.Found.{found}
 use Rattle.job.proofs.Soundness.{Held, held}
 use Rattle.job.proofs.Folds.{keeps, keeps-fits, height-more, padded-more}
@@ -71,7 +71,7 @@ module _ (s : List ℕ) (v : Survey) (k at : ℕ) (g : Surveyed s v k at) where
         by : (t : Bool) → kept (paperWidth s) (g .H) c ≡ t → Surveyed s v' (k + 1) nx
         by true z =
             record {
-              H = grown (g .H) c;
+              H = heightAfter (g .H) c;
               ks = g .ks ++ (c ∷ []);
               ds = g .ds;
               looked = looked-kept s k at (g .H) (g .ks) (g .ds) (g .looked) e q (eqb-true _ _ z);
@@ -81,9 +81,9 @@ module _ (s : List ℕ) (v : Survey) (k at : ℕ) (g : Surveyed s v k at) where
             record {
               H = g .H;
               ks = g .ks;
-              ds = g .ds ++ (record { place = k; reason = refusal (paperWidth s) (g .H) c } ∷ []);
+              ds = g .ds ++ (record { place = k; reason = reasonOf (paperWidth s) (g .H) c } ∷ []);
               looked = looked-dropped s k at (g .H) (g .ks) (g .ds) (g .looked) e q (eqb-false _ _ z);
-              same = here ∙ rw z (list-more (g .H) (g .ds) k (refusal (paperWidth s) (g .H) c) (omega (arith, surveyed-few, g .looked .all)));
+              same = here ∙ rw z (list-more (g .H) (g .ds) k (reasonOf (paperWidth s) (g .H) c) (omega (arith, surveyed-few, g .looked .all)));
             }
 
 -- ---- the drawing: the canvas shows the picture so far, on the buffer l as it was
@@ -149,12 +149,12 @@ module _ (s l b : List ℕ) (H at : ℕ) (room : paperWidth s * jobHeight s * 4 
       unfolding steppedOn next
       one-more {b'} r = by (kept (paperWidth s) H c) refl
         where
-          by : (t : Bool) → kept (paperWidth s) H c ≡ t → Drawing s l b' (if t then grown H c else H) nx
+          by : (t : Bool) → kept (paperWidth s) H c ≡ t → Drawing s l b' (if t then heightAfter H c else H) nx
           by true z =
               let d = eqb-true _ _ z in
               let a = obeyed s (paperWidth s) (good .some) (paperColor s) H (drawnBy s (g .ks)) l (g .bare) c d (rw z at fits) in
               let m = after-more s (paperColor s) (g .ks) c (λ _ _. paperColor s) in
-              let shows : b' ≡ shown (paperWidth s) (grown H c) (drawnBy s (g .ks ++ (c ∷ []))) l = r ∙ rw (z, g .bytes) (a .bytes) ∙ ap (λ (p : Picture). shown (paperWidth s) (grown H c) p l) (sym m) in
+              let shows : b' ≡ shown (paperWidth s) (heightAfter H c) (drawnBy s (g .ks ++ (c ∷ []))) l = r ∙ rw (z, g .bytes) (a .bytes) ∙ ap (λ (p : Picture). shown (paperWidth s) (heightAfter H c) p l) (sym m) in
               record {
                 k = g .k + 1;
                 ks = g .ks ++ (c ∷ []);
@@ -168,7 +168,7 @@ module _ (s l b : List ℕ) (H at : ℕ) (room : paperWidth s * jobHeight s * 4 
               record {
                 k = g .k + 1;
                 ks = g .ks;
-                ds = g .ds ++ (record { place = g .k; reason = refusal (paperWidth s) H c } ∷ []);
+                ds = g .ds ++ (record { place = g .k; reason = reasonOf (paperWidth s) H c } ∷ []);
                 looked = looked-dropped s (g .k) at H (g .ks) (g .ds) (g .looked) e q (eqb-false _ _ z);
                 bytes = r ∙ rw z (g .bytes);
                 long = ap length r ∙ rw z (g .long);

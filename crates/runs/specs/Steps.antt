@@ -11,7 +11,7 @@ use Rattle.moves.specs.Moves.{loweredOn}
 use Rattle.job.specs.declared.dropping.Dropped.{Dropped}
 use Rattle.job.specs.declared.commands.Command.{Command}
 use Rattle.job.specs.declared.commands.Command.the-variants.{Rectangle, Image, Margin, Flip}
-use Rattle.job.specs.Dropping.{refusal, grown, kept, noDropped, padded}
+use Rattle.job.specs.Dropping.{reasonOf, heightAfter, kept, noDropped, padded}
 use Rattle.entries.specs.declared.Entry.{Entry}
 use Rattle.entries.specs.Entries.{rectangleEntry, imageEntry, entryRows}
 use Rattle.thermal_image.specs.Canvas.{papered}
@@ -33,7 +33,7 @@ abbrev pub reached : Survey → ℕ → Survey
 reached v height = record { height = height; «dropped_count» = v .«dropped_count»; dropped = v .dropped }
 
 unfoldable pub seen : ℕ → Survey → ℕ → Command → Survey
-seen W v k c = if kept W (v .height) c then reached v (grown (v .height) c) else leftOut v k (refusal W (v .height) c)
+seen W v k c = if kept W (v .height) c then reached v (heightAfter (v .height) c) else leftOut v k (reasonOf W (v .height) c)
 
 -- ---- the bytes
 

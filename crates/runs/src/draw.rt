@@ -54,7 +54,7 @@ fn obey(buf: &mut [u8], width: u32, height: u32, paper: RGBA, c: Command, s: &[u
     ensures { λ r. ⌜ r ≡ next width height c ⌝ }
     ensures { λ _. ⌜ now (buf .exit) ≡ steppedOn (now (s .entry)) width paper height c (now (buf .entry)) ⌝ }
 {
-    if job::command_refusal(width, height, c) != DONE {
+    if job::command_reason(width, height, c) != DONE {
         return height;
     }
     match c {

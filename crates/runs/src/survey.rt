@@ -45,7 +45,7 @@ fn look_at(survey: Survey, width: u32, k: u32, c: Command) -> Survey
     requires { ⌜ survey .«dropped_count» < 64 ⌝ }
     ensures { λ r. ⌜ r ≡ seen width survey k c ⌝ }
 {
-    let why = job::command_refusal(width, survey.height, c);
+    let why = job::command_reason(width, survey.height, c);
     if why != DONE {
         return leave_out(survey, k, why);
     }

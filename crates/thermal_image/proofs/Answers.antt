@@ -1,16 +1,12 @@
 -- What an entry's definitions come to, refused and done. `number` is the number that the code worked out, k the one that 01 gives. Assumes nothing.
-use mathlib.Core.Path.{_≡_, ap, _∙_}
+use mathlib.Core.Path.{_≡_, _∙_}
 use mathlib.Core.List.{List}
-use Prim.Native.Nat.{ℕ, _+_, _-_, _*_, _≤_, max}
-use native.Mathlib.Nat.{mul-le-mul-left}
-use native.Mathlib.Omega.{arith}
+use Prim.Native.Nat.{ℕ}
 use borrow.Author.Tests.{ne-eqb}
 use Rattle.numbers.specs.Numbers.{done}
-use Rattle.colour.specs.declared.RGBA.{RGBA}
-use Rattle.dots.specs.Dots.{change, within}
 use Rattle.thermal_image.specs.declared.ThermalImage.{ThermalImage}
 use Rattle.thermal_image.specs.declared.Answer.{Answer}
-use Rattle.thermal_image.specs.Canvas.{sized, finished, answered, written, papered, copyAnswer, rgbAnswer}
+use Rattle.thermal_image.specs.Canvas.{sized, finished, answered, written, copyAnswer, rgbAnswer}
 
 module _ {number k : ℕ} (e : number ≡ k) where
   pub refused : (t next : ThermalImage) → (number ≡ done → ⊥) → record { number = number; image = t } ≡ answered k t next
@@ -45,14 +41,3 @@ module _ {number k : ℕ} (e : number ≡ k) where
       → record { number = done; image = a .image; width = t .width; height = t .height } ≡ rgbAnswer k t
   unfolding rgbAnswer
   rgb-did t n ea = rw (ea, ← e, n)
-
--- more rows take no fewer dots
-pub more-rows : (W : ℕ) {H H' : ℕ} → H ≤ H' → W * H ≤ W * H'
-more-rows W h = mul-le-mul-left W h
-
--- rows of paper as the code fills them
-pub papered-run : (W H height : ℕ) (paper : RGBA) (l : List ℕ) {tall : ℕ} {m : List ℕ} → tall ≡ max H height
-    → m ≡ change (within (W * H) (W * H + (W * tall - W * H))) (λ _ _. paper) l → m ≡ papered W H (max H height) paper l
-unfolding papered
-papered-run W H height paper l et em =
-    em ∙ rw et (ap (λ (n : ℕ). change (within (W * H) n) (λ _ _. paper) l) (omega (arith, more-rows W {H = H} {H' = max H height} (omega arith))))

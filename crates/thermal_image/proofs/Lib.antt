@@ -1,3 +1,4 @@
+pub mod Paper
 pub mod Laws
 pub mod Answers
 mod Unique

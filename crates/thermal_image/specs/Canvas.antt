@@ -73,7 +73,7 @@ widenOn t new l =
     written (widenRefusal (t .width) (t .height) new (length l)) l
     (if leb new (t .width) then l else widenedOn (t .width) (t .height) new ((new - t .width) / 2) (t .«paper_color») l)
 
--- ---- setting the width empties the canvas (order 9, 2); `empty` and `reset` give H = 0 and keep W (order 9). No byte is written
+-- ---- setting the width empties the canvas (order 9, 2, and 1 cannot arise); `empty` and `reset` give H = 0 and keep W (order 9). No byte is written
 
 unfoldable pub setWidth : ThermalImage → ℕ → ℕ → Answer
 setWidth t W n = answered (widthRefusal (t .width) (t .height) W n) t (sized t W 0)

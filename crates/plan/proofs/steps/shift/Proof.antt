@@ -5,7 +5,7 @@ use native.Mathlib.Omega.{arith}
 use lib.ListN.{getD}
 use Rattle.entries.specs.declared.Entry.{Entry}
 use Rattle.plan.specs.Plan.{noEntry}
-use Rattle.plan.specs.Steps.{lowered, withEntries}
+use Rattle.plan.specs.Steps.{loweredEntries, withEntries}
 use Rattle.plan.proofs.Listed.{getD-lowered}
 use Rattle.plan.proofs.Answers.{lower-step}
 use borrow.Author.Needs.{needs}
@@ -13,7 +13,7 @@ use Rattle.plan.proofs.steps.shift.Statement.{statement}
 use Rattle.plan.proofs.steps.shift.Tie as tie
 
 abbrev Inv-loop : tie.InvT-loop
-Inv-loop m p₀ n i₀ p i = (i ≤ n) × (p ≡ withEntries p₀ (p₀ .height) n (lowered m i (p₀ .entries)))
+Inv-loop m p₀ n i₀ p i = (i ≤ n) × (p ≡ withEntries p₀ (p₀ .height) n (loweredEntries m i (p₀ .entries)))
 
 abbrev μ-loop : tie.MeasureT-loop
 μ-loop m p₀ n i₀ p i = n - i
@@ -22,7 +22,7 @@ add-p : tie.Need-add-p Inv-loop μ-loop
 add-p c = search needs
 
 loop-holds : tie.Need-loop-holds Inv-loop μ-loop
-unfolding lowered
+unfolding loweredEntries
 loop-holds c = search needs
 
 mul-e : tie.Need-mul-e Inv-loop μ-loop

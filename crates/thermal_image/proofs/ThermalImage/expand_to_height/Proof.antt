@@ -7,7 +7,8 @@ use denote.Ref.{now}
 use Rattle.numbers.proofs.Sides.{area}
 use Rattle.thermal_image.specs.Canvas.{grown, grownOn}
 use Rattle.refusals.proofs.Codes.{Fits, grow-done}
-use Rattle.thermal_image.proofs.Answers.{refused, did, kept, changed, more-rows, papered-run}
+use Rattle.thermal_image.proofs.Answers.{refused, did, kept, changed}
+use Rattle.thermal_image.proofs.Paper.{more-rows, papered-run}
 use borrow.Author.Needs.{needs}
 use Rattle.thermal_image.proofs.ThermalImage.expand_to_height.Statement.{statement}
 use Rattle.thermal_image.proofs.ThermalImage.expand_to_height.Tie as tie

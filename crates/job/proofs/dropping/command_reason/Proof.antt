@@ -1,20 +1,20 @@
--- `job::dropping::command_refusal` meets its contract. Assumes nothing.
+-- `job::dropping::command_reason` meets its contract. Assumes nothing.
 use Rattle.job.proofs.Reasons.{of-rectangle, of-image, of-margin, of-flip}
 use borrow.Author.Needs.{needs}
-use Rattle.job.proofs.dropping.command_refusal.Statement.{statement}
-use Rattle.job.proofs.dropping.command_refusal.Tie as tie
+use Rattle.job.proofs.dropping.command_reason.Statement.{statement}
+use Rattle.job.proofs.dropping.command_reason.Tie as tie
 
 enum-known-c : tie.Need-enum-known-c
 enum-known-c c = search needs
 
-put-refusal-requires : tie.Need-put-refusal-requires
-put-refusal-requires c κs = search needs
+put-reason-requires : tie.Need-put-reason-requires
+put-reason-requires c κs = search needs
 
 enum-known-c-2 : tie.Need-enum-known-c-2
 enum-known-c-2 c = search needs
 
-image-refusal-requires : tie.Need-image-refusal-requires
-image-refusal-requires c κs = search needs
+image-reason-requires : tie.Need-image-reason-requires
+image-reason-requires c κs = search needs
 
 enum-known-c-3 : tie.Need-enum-known-c-3
 enum-known-c-3 c = search needs
@@ -31,35 +31,35 @@ tall-refusal-requires c κs = search needs
 enum-known-c-4 : tie.Need-enum-known-c-4
 enum-known-c-4 c = search needs
 
-flip-refusal-requires : tie.Need-flip-refusal-requires
-flip-refusal-requires c κs = search needs
+flip-reason-requires : tie.Need-flip-reason-requires
+flip-reason-requires c κs = search needs
 
 returns : tie.Need-returns
-returns c = of-rectangle _ _ (c .before .before .c .given .1) (c .put-refusal .ensures)
+returns c = of-rectangle _ _ (c .before .before .c .given .1) (c .put-reason .ensures)
 
 returns-2 : tie.Need-returns-2
-returns-2 c = of-image _ _ (c .before .before .c2 .given .1) (c .image-refusal .ensures)
+returns-2 c = of-image _ _ (c .before .before .c2 .given .1) (c .image-reason .ensures)
 
 returns-3 : tie.Need-returns-3
 returns-3 c = of-margin _ _ (c .before .before .c3 .given .1) (c .tall-refusal .ensures)
 
 returns-4 : tie.Need-returns-4
-returns-4 c = of-flip _ _ (c .before .before .c4 .given .1) (c .flip-refusal .ensures)
+returns-4 c = of-flip _ _ (c .before .before .c4 .given .1) (c .flip-reason .ensures)
 
-pub command-refusal-spec : {M : Type 1} → statement M
-command-refusal-spec =
+pub command-reason-spec : {M : Type 1} → statement M
+command-reason-spec =
     tie.close
     (tie.spec
     enum-known-c
-    put-refusal-requires
+    put-reason-requires
     enum-known-c-2
-    image-refusal-requires
+    image-reason-requires
     enum-known-c-3
     cast-tall-refusal
     add-tall-refusal
     tall-refusal-requires
     enum-known-c-4
-    flip-refusal-requires
+    flip-reason-requires
     returns
     returns-2
     returns-3

@@ -1,4 +1,4 @@
--- `job::dropping::image_refusal` meets its contract. Assumes nothing.
+-- `job::dropping::image_reason` meets its contract. Assumes nothing.
 use mathlib.Core.Path.{_≡_, sym, _∙_}
 use mathlib.Core.Bool.{false}
 use Prim.Native.Nat.{_≤_, _<_}
@@ -7,8 +7,8 @@ use Rattle.images.specs.Stretching.{isLarge}
 use Rattle.images.proofs.Sides.{Small, small, factor-range}
 use Rattle.job.proofs.Reasons.{image-large, image-length, image-rest}
 use borrow.Author.Needs.{needs}
-use Rattle.job.proofs.dropping.image_refusal.Statement.{statement}
-use Rattle.job.proofs.dropping.image_refusal.Tie as tie
+use Rattle.job.proofs.dropping.image_reason.Statement.{statement}
+use Rattle.job.proofs.dropping.image_reason.Tie as tie
 
 range : (c : tie.After-factor-of) → (0 < c .factor-of .result) × (c .factor-of .result ≤ 255)
 range c = factor-range _ (c .factor-of .ensures) (omega arith)
@@ -40,20 +40,20 @@ bytes-of-requires c κs = let s = sides c in (s .width, s .height)
 returns-2 : tie.Need-returns-2
 returns-2 c = let e = c .before .before in let f = e .before .before in rw (← f .before .factor-of .ensures, ← f .factor-of2 .ensures) (image-length _ _ _ _ _ _ _ _ _ (not-large e) (λ z. c .if2 .taken (z ∙ sym (c .before .bytes-of .ensures))))
 
-mul-put-refusal : tie.Need-mul-put-refusal
-mul-put-refusal c = omega (arith, sides (c .before .before) .wide)
+mul-put-reason : tie.Need-mul-put-reason
+mul-put-reason c = omega (arith, sides (c .before .before) .wide)
 
-mul-put-refusal-2 : tie.Need-mul-put-refusal-2
-mul-put-refusal-2 c = omega (arith, sides (c .before .before) .tall)
+mul-put-reason-2 : tie.Need-mul-put-reason-2
+mul-put-reason-2 c = omega (arith, sides (c .before .before) .tall)
 
-put-refusal-requires : tie.Need-put-refusal-requires
-put-refusal-requires c κs = search needs
+put-reason-requires : tie.Need-put-reason-requires
+put-reason-requires c κs = search needs
 
 returns-3 : tie.Need-returns-3
-returns-3 c = let b = c .before .before in let e = b .before in let f = e .before .before in rw (← f .before .factor-of .ensures, ← f .factor-of2 .ensures) (c .put-refusal .ensures ∙ image-rest _ _ _ _ _ _ _ _ _ (not-large e) (c .before .if2 .left ∙ b .bytes-of .ensures))
+returns-3 c = let b = c .before .before in let e = b .before in let f = e .before .before in rw (← f .before .factor-of .ensures, ← f .factor-of2 .ensures) (c .put-reason .ensures ∙ image-rest _ _ _ _ _ _ _ _ _ (not-large e) (c .before .if2 .left ∙ b .bytes-of .ensures))
 
-pub image-refusal-spec : {M : Type 1} → statement M
-image-refusal-spec =
+pub image-reason-spec : {M : Type 1} → statement M
+image-reason-spec =
     tie.close
     (tie.spec
     factor-of-requires
@@ -62,7 +62,7 @@ image-refusal-spec =
     returns
     bytes-of-requires
     returns-2
-    mul-put-refusal
-    mul-put-refusal-2
-    put-refusal-requires
+    mul-put-reason
+    mul-put-reason-2
+    put-reason-requires
     returns-3)

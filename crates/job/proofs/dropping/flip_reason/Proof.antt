@@ -1,9 +1,9 @@
--- `job::dropping::flip_refusal` meets its contract. Assumes nothing.
+-- `job::dropping::flip_reason` meets its contract. Assumes nothing.
 use mathlib.Core.Logic.{inl, inr}
 use Rattle.job.proofs.Reasons.{flip-empty, flip-off, flip-rest}
 use borrow.Author.Needs.{needs}
-use Rattle.job.proofs.dropping.flip_refusal.Statement.{statement}
-use Rattle.job.proofs.dropping.flip_refusal.Tie as tie
+use Rattle.job.proofs.dropping.flip_reason.Statement.{statement}
+use Rattle.job.proofs.dropping.flip_reason.Tie as tie
 
 returns : tie.Need-returns
 returns c = flip-empty _ _ _ _ _ _ (inl (c .if1 .taken))
@@ -26,7 +26,7 @@ tall-refusal-requires c κs = search needs
 returns-4 : tie.Need-returns-4
 returns-4 c = let e = c .before .before in flip-rest _ _ _ _ _ _ (e .before .before .if1 .left) (e .before .if2 .left) (e .if3 .left) (c .before .reached .ensures) (c .tall-refusal .ensures)
 
-pub flip-refusal-spec : {M : Type 1} → statement M
-flip-refusal-spec =
+pub flip-reason-spec : {M : Type 1} → statement M
+flip-reason-spec =
     tie.close
     (tie.spec returns returns-2 add-if3 returns-3 reached-requires tall-refusal-requires returns-4)
