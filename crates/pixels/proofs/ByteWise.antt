@@ -11,7 +11,7 @@ use lib.ListN.{length, getD, set}
 use borrow.Author.Tests.{eqb-true, eqb-false, eq-eqb, ne-eqb}
 use Rattle.colour.specs.Choice.{if_then_else_}
 use Rattle.colour.specs.declared.RGBA.{RGBA}
-use Rattle.colour.specs.Channel.{nearest, blendByte, multiplyByte}
+use Rattle.colour.specs.Channel.{nearest, blendByte}
 use Rattle.colour.specs.Colour.{rgba, white, blended, multiplied}
 use Rattle.colour.proofs.Laws.{rgba-eq, by-256, blend-byte-none, blend-byte-full, blended-none, blended-full, blended-some, multiplied-none, multiplied-some}
 use Rattle.dots.specs.Dots.{dotAt, chan, drawn}

@@ -1,6 +1,5 @@
 -- `pixels::bytes::draw_byte` meets its contract. Assumes nothing.
 use native.Mathlib.Omega.{arith}
-use native.Mathlib.Nat.{mul-le-mul}
 use mathlib.Core.Logic.{⊎-elim}
 use mathlib.Core.Path.{sym, _∙_}
 use mathlib.Core.Bool.{true≢false}

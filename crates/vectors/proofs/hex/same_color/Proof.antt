@@ -1,7 +1,6 @@
 -- `vectors::hex::same_color` meets its contract. Assumes nothing.
 use borrow.Author.Tests.{eq-eqb, ne-eqb}
 use Rattle.vectors.specs.Hex.{sameColor}
-use borrow.Author.Needs.{needs}
 use Rattle.vectors.proofs.hex.same_color.Statement.{statement}
 use Rattle.vectors.proofs.hex.same_color.Tie as tie
 
