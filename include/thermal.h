@@ -8,7 +8,7 @@
  * an operation can give, in the order in which they are tested: the first that applies is given.
  *
  * Refusals. A refused call writes to no buffer. It gives its number, the canvas record as it was
- * given, and zero in all else.
+ * given (zero where none was), and zero in all else.
  *
  * Buffers. A buffer is lent for one call, as an address and a number of bytes. The address is not
  * null, also where there are no bytes. A buffer that is written to overlaps no other of that call.
@@ -222,8 +222,9 @@ thermal_decoded thermal_image_from_column_bytes_single_color(
     const uint8_t *data, size_t data_length, uint8_t *out, size_t out_length);
 
 /* Answers the same of `num_colors` layers, each a colour byte and then its rows: as bits
- * floor(width/8)*height bytes, so only widths of whole bytes make an image, else width*height
- * alphas. The first layer is taken as it is, each later one is blended onto it at its own alpha.
+ * floor(width/8)*height bytes, so that a width that is no whole number of bytes makes an image at
+ * height 0 alone, else width*height alphas. The first layer is taken as it is, each later one is
+ * blended onto it at its own alpha.
  * Writes the dots, 4*w*h bytes, from the start of `out` when done. `data` is only read.
  * Numbers: 2, 3, 4, 16, 1. */
 thermal_decoded thermal_image_from_raster_bytes_multi_color(
