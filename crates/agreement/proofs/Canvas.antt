@@ -2,14 +2,14 @@
 use Prim.Native.Nat.{ℕ, _+_, _-_, _*_, _/_, _%_, _^_, _≤_, _<_, max}
 use mathlib.Core.Path.{_≡_, refl, ap, sym, _∙_}
 use mathlib.Core.List.{List}
-use mathlib.Core.Bool.{Bool, true, false, not, _||_}
+use mathlib.Core.Bool.{Bool, true, false, not}
 use native.Mathlib.Nat.{sub-self, div-lt-iff-lt-mul}
 use native.Mathlib.Omega.{arith}
-use lib.Dec.{ltb, leb, eqb}
+use lib.Dec.{eqb}
 use lib.ListN.{length, drop, length-drop}
 use lib.Seq.{getD-take, length-take-le}
 use borrow.Author.Tests.{lt-ltb, le-ltb, eq-eqb, eqb-true, eqb-false}
-use Rattle.numbers.specs.Numbers.{limit, done, tooLarge, wrongLength}
+use Rattle.numbers.specs.Numbers.{done, tooLarge, wrongLength}
 use Rattle.colour.specs.Choice.{if_then_else_}
 use Rattle.colour.specs.declared.RGBA.{RGBA}
 use Rattle.colour.specs.Colour.{withAlpha}
@@ -26,29 +26,24 @@ use Rattle.areas.specs.Areas.{areaOn}
 use Rattle.areas.proofs.Laws.{at-column, area-by}
 use Rattle.job.specs.declared.commands.Command.{Command}
 use Rattle.job.specs.declared.commands.Command.the-variants.{Rectangle, Image, Margin, Flip}
+use Rattle.job.specs.Commands.{multiplies}
 use Rattle.job.specs.Dropping as dropping
 use Rattle.job.proofs.Reasons.{put-kept}
 use Rattle.entries.specs.declared.Entry.{Entry}
-use Rattle.entries.specs.Entries.{multiplies, rectangleEntry, imageEntry, imagePixel, entryPixel}
+use Rattle.entries.specs.Entries.{rectangleEntry, imageEntry, imagePixel, entryPixel}
 use Rattle.entries.proofs.Drawing.{entry-rows}
 use Rattle.thermal_image.specs.declared.ThermalImage.{ThermalImage}
-use Rattle.refusals.specs.Refusals.{first, unsound, tallRefusal, roomRefusal, marginRefusal}
+use Rattle.refusals.specs.Refusals.{first, unsound, tallRefusal, roomRefusal, sideRefusal, emptyRefusal, marginRefusal}
 use Rattle.thermal_image.specs.Canvas.{canvas, sized, finished, papered}
 use Rattle.thermal_image.proofs.Laws.{margin-record, margin-lowered}
-use Rattle.refusals.proofs.Codes.{first-some, first-none, first-done}
-use Rattle.places.specs.Places.{tallAfter, sideRefusal, emptyRefusal, acrossRefusal, resultRefusal, putRefusal, rectRefusal, flipTall, flipRefusal}
+use Rattle.refusals.proofs.Codes.{first-some, first-none, first-then, first-done}
+use Rattle.places.specs.Places.{tallAfter, resultRefusal, putRefusal, rectRefusal, flipTall, flipRefusal}
 use Rattle.drawing.specs.Drawing.{pixelsDrawn, putOn}
 use Rattle.places.proofs.Codes.{tall-grown, flip-tall}
 use Rattle.places.proofs.Equal.{pixel-in, rect-grown}
 use Rattle.drawing.proofs.Laws.{placed-grown, rect-record, rect-placed, put-record, put-placed, flip-record, flip-placed}
 use Rattle.runs.specs.Steps as steps
 use Rattle.agreement.specs.Canvas.{dataOf, imageOutcome, outcome, Inside, pixelBytes, OnCanvas, CommandsOnCanvas}
-
--- a test of an order, whatever is refused after it
-step : (t : Bool) {k : ℕ} (a r : ℕ) → (k ≡ done → ⊥) → first (if t then k else a) r ≡ first (if t then k else done) (first a r)
-unfolding first
-step true {k} a r h = sym (first-some k r h) ∙ first-some k _ h
-step false a r h = refl
 
 factor-some : (n : ℕ) → 0 < factor n
 unfolding factor
@@ -69,10 +64,8 @@ module _ (s : List ℕ) (W H : ℕ) (paper : RGBA) (l : List ℕ) (some : 1 ≤ 
   -- ---- a put of all its pixels
 
   put-number : (x y w h : ℕ) → rectRefusal t x y w h (length l) ≡ first (dropping.putReason W H x y w h) (roomRefusal W (max H (y + h)) (length l))
-  unfolding dropping.putReason sideRefusal resultRefusal
-  put-number x y w h =
-      rect-grown t refl x y w h (length l) sound
-      ∙ sym (step (ltb limit w || ltb limit h) _ _ (λ e. omega arith) ∙ ap (first (sideRefusal w h)) (step (leb W x) _ _ (λ e. omega arith)))
+  unfolding dropping.putReason resultRefusal
+  put-number x y w h = rect-grown t refl x y w h (length l) sound ∙ sym (first-then _ _ _ ∙ ap (first (sideRefusal w h)) (first-then _ _ _))
 
   put-on : (x y w h : ℕ) → rectRefusal t x y w h (length l) ≡ done → x < W
   put-on x y w h e = put-kept W H x y w h (first-done _ _ (sym (put-number x y w h) ∙ e) .0) .on
@@ -116,10 +109,8 @@ module _ (s : List ℕ) (W H : ℕ) (paper : RGBA) (l : List ℕ) (some : 1 ≤ 
   -- ---- a flip
 
   flip-number : (x y w h : ℕ) → flipRefusal t x y w h (length l) ≡ first (dropping.flipReason W H x y w h) (roomRefusal W (max H (y + h)) (length l))
-  unfolding flipRefusal flipTall emptyRefusal acrossRefusal dropping.flipReason resultRefusal
-  flip-number x y w h =
-      sym (first-none _ _ sound)
-      ∙ sym (step (eqb w 0 || eqb h 0) _ _ (λ e. omega arith) ∙ ap (first (emptyRefusal w h)) (step (ltb W (x + w)) _ _ (λ e. omega arith)))
+  unfolding flipRefusal flipTall dropping.flipReason resultRefusal
+  flip-number x y w h = sym (first-none _ _ sound) ∙ sym (first-then _ _ _ ∙ ap (first (emptyRefusal w h)) (first-then _ _ _))
 
   flip-same : (out : List ℕ) (x y w h : ℕ) → Same out (Flip x y w h)
   unfolding outcome dropping.reasonOf dropping.heightAfter steps.obeyedOn

@@ -15,9 +15,8 @@ use Rattle.job.specs.declared.commands.Command.{Command}
 use Rattle.job.specs.declared.commands.Command.the-variants.{Rectangle, Image, Margin, Flip}
 use Rattle.job.specs.declared.dropping.Dropped.{Dropped}
 use Rattle.job.specs.Records.{Bytes}
-use Rattle.job.specs.Commands.{paperWidth, paperColor, commands}
+use Rattle.job.specs.Commands.{paperWidth, paperColor, multiplies, commands}
 use Rattle.job.specs.Dropping.{reasonOf, heightAfter, jobDropped}
-use Rattle.entries.specs.Entries.{multiplies}
 use Rattle.thermal_image.specs.declared.ThermalImage.{ThermalImage}
 use Rattle.thermal_image.specs.declared.Answer.{Answer}
 use Rattle.refusals.specs.Refusals.{first, unsound, roomRefusal, marginRefusal}

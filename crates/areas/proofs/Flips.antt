@@ -38,7 +38,7 @@ use Rattle.dots.proofs.Laws.{
 use Rattle.dots.proofs.Blocks.{in-row}
 use Rattle.pixels.specs.Pixels.{pixelsOn}
 use Rattle.areas.specs.Areas.{Fits, inArea, areaOn, flippedOn}
-use Rattle.areas.specs.Rows.{pairOn}
+use Rattle.areas.specs.Steps.{pairOn}
 use Rattle.areas.proofs.Laws.{at-column, run-row}
 use Rattle.areas.proofs.Rows.{Row, row-of}
 

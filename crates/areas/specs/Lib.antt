@@ -1,3 +1,3 @@
 -- What the contracts of areas say.
 pub mod Areas
-pub mod Rows
+pub mod Steps

@@ -4,7 +4,7 @@ ghost use mathlib.Core.Logic.{_⊎_};
 ghost use Prim.Native.Nat.{_+_, _*_, _≤_};
 ghost use lib.ListN.{length};
 ghost use Rattle.areas.specs.Areas.{Fits, flippedOn};
-ghost use Rattle.areas.specs.Rows.{pairOn};
+ghost use Rattle.areas.specs.Steps.{pairOn};
 use moves::copy_run;
 use pixels::put_run;
 

@@ -15,9 +15,9 @@ use Rattle.dots.specs.Dots.{dotAt, within, drawn}
 use Rattle.dots.proofs.Laws.{change-same, Place, before, inside, past, place, within-yes, within-low, within-high, within-true}
 use Rattle.areas.specs.Areas.{Fits, inArea, areaOn}
 use Rattle.areas.proofs.Laws.{area-none, area-by}
-use Rattle.job.specs.Commands.{rectangleKind, imageKind, soundMode}
+use Rattle.job.specs.Commands.{rectangleKind, imageKind, soundMode, multiplies}
 use Rattle.entries.specs.declared.Entry.{Entry}
-use Rattle.entries.specs.Entries.{goodImage, goodKind, goodEntry, multiplies, imagePixel, entryPixel, entryOn, ownRow, entryRows, Placed}
+use Rattle.entries.specs.Entries.{goodImage, goodKind, goodEntry, imagePixel, entryPixel, entryOn, ownRow, entryRows, Placed}
 
 -- ---- what the rules come to
 

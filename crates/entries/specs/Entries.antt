@@ -12,7 +12,7 @@ use Rattle.images.specs.declared.formats.Format.the-variants.{Bits}
 use Rattle.images.specs.Formats.{bytesOf}
 use Rattle.images.specs.Stretching.{pixelOf}
 use Rattle.areas.specs.Areas.{inArea, areaOn}
-use Rattle.job.specs.Commands.{rectangleKind, imageKind, soundMode}
+use Rattle.job.specs.Commands.{rectangleKind, imageKind, soundMode, multiplies}
 use Rattle.entries.specs.declared.Entry.{Entry}
 
 -- ---- the entry of a rectangle, and of an image of w by h dots stretched fx and fy times, on paper W wide: cropped
@@ -72,10 +72,6 @@ unfoldable pub goodEntry : ℕ → ℕ → ℕ → Entry → Bool
 goodEntry W H n e = soundMode (e .mode) && leb (e .x + e .w) W && leb (e .y + e .h) H && goodKind n e
 
 -- ---- what an entry draws. s is the bytes that hold the data
-
--- mode 1 multiplies
-abbrev pub multiplies : ℕ → Bool
-multiplies mode = eqb mode 1
 
 -- an image's pixel at column i, row j of its own: that of the image decoded from the data part
 unfoldable pub imagePixel : List ℕ → Entry → ℕ → ℕ → RGBA

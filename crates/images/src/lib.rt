@@ -1,5 +1,5 @@
 // Images of one colour: what their data say, and their dots put on an output or blended onto it.
-// Inner steps of decoding.
+// Inner steps of decoding, jobs and plans.
 mod formats;
 mod scale;
 mod sizes;

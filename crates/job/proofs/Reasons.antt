@@ -1,16 +1,14 @@
 -- What a command is dropped for: from tests to the number, and from number 0 to what was tested. Assumes nothing.
 use Prim.Native.Nat.{ℕ, _+_, _*_, _≤_, _<_, max}
 use mathlib.Core.Path.{_≡_, refl}
-use mathlib.Core.Logic.{_⊎_, inl, inr}
-use mathlib.Core.Bool.{Bool, true, false, not, _||_, or-true, true≢false}
+use mathlib.Core.Bool.{Bool, true, false, not, true≢false}
 use native.Mathlib.Omega.{arith}
-use borrow.Author.Tests.{lt-ltb, le-ltb, le-leb, lt-leb, eq-eqb, ne-eqb, ltb-false, leb-false, eqb-true, eqb-false}
-use lib.Dec.{ltb, leb, eqb}
-use Rattle.numbers.specs.Numbers.{limit, done, tooLarge, wrongLength, offPaper, emptyArea}
+use borrow.Author.Tests.{eq-eqb, ne-eqb, eqb-true}
+use lib.Dec.{eqb}
+use Rattle.numbers.specs.Numbers.{limit, done, tooLarge, wrongLength}
 use Rattle.colour.specs.declared.RGBA.{RGBA}
 use Rattle.refusals.specs.Refusals.{tallRefusal}
-use Rattle.refusals.proofs.Codes.{passed-on, tall-done}
-use Rattle.colour.proofs.Tests.{neither}
+use Rattle.refusals.proofs.Codes.{first-done, passed-on, tall-done, side-done, off-done, across-done, empty-done}
 use Rattle.images.specs.declared.formats.Format.the-variants.{Bits}
 use Rattle.images.specs.Formats.{bytesOf}
 use Rattle.images.specs.Stretching.{factor, isLarge}
@@ -21,48 +19,18 @@ use Rattle.job.specs.Dropping.{putReason, imageReason, flipReason, reaso
 
 -- ---- from tests to the number
 
-module _ (W H x y w h : ℕ) where
-  pub put-wide : limit < w → tooLarge ≡ putReason W H x y w h
-  unfolding putReason
-  put-wide a = rw (lt-ltb limit w a)
+module _ (W H x y w h fx fy size : ℕ) where
+  pub image-large : isLarge w h fx fy ≡ true → tooLarge ≡ imageReason W H x y w h fx fy size
+  unfolding imageReason
+  image-large l = rw l
 
-  pub put-high : limit < h → tooLarge ≡ putReason W H x y w h
-  unfolding putReason
-  put-high a = rw (lt-ltb limit h a, or-true)
+  pub image-length : isLarge w h fx fy ≡ false → (size ≡ bytesOf Bits w h → ⊥) → wrongLength ≡ imageReason W H x y w h fx fy size
+  unfolding imageReason
+  image-length l e = rw (l, ne-eqb size (bytesOf Bits w h) e)
 
-  pub put-off : w ≤ limit → h ≤ limit → W ≤ x → offPaper ≡ putReason W H x y w h
-  unfolding putReason
-  put-off a b d = rw (le-ltb limit w a, le-ltb limit h b, le-leb W x d)
-
-  pub put-rest : w ≤ limit → h ≤ limit → x < W → {r e : ℕ} → e ≡ max H (y + h) → r ≡ tallRefusal e → r ≡ putReason W H x y w h
-  unfolding putReason
-  put-rest a b d q f = rw (le-ltb limit w a, le-ltb limit h b, lt-leb W x d, ← q) f
-
-  pub flip-empty : (w ≡ 0) ⊎ (h ≡ 0) → emptyArea ≡ flipReason W H x y w h
-  unfolding flipReason
-  flip-empty (inl a) = rw (eq-eqb w 0 a)
-  flip-empty (inr a) = rw (eq-eqb h 0 a, or-true)
-
-  pub flip-off : (w ≡ 0 → ⊥) → (h ≡ 0 → ⊥) → W < x + w → offPaper ≡ flipReason W H x y w h
-  unfolding flipReason
-  flip-off a b d = rw (ne-eqb w 0 a, ne-eqb h 0 b, lt-ltb W (x + w) d)
-
-  pub flip-rest : (w ≡ 0 → ⊥) → (h ≡ 0 → ⊥) → x + w ≤ W → {r e : ℕ} → e ≡ max H (y + h) → r ≡ tallRefusal e → r ≡ flipReason W H x y w h
-  unfolding flipReason
-  flip-rest a b d q f = rw (ne-eqb w 0 a, ne-eqb h 0 b, le-ltb W (x + w) d, ← q) f
-
-  module _ (fx fy size : ℕ) where
-    pub image-large : isLarge w h fx fy ≡ true → tooLarge ≡ imageReason W H x y w h fx fy size
-    unfolding imageReason
-    image-large l = rw l
-
-    pub image-length : isLarge w h fx fy ≡ false → (size ≡ bytesOf Bits w h → ⊥) → wrongLength ≡ imageReason W H x y w h fx fy size
-    unfolding imageReason
-    image-length l e = rw (l, ne-eqb size (bytesOf Bits w h) e)
-
-    pub image-rest : isLarge w h fx fy ≡ false → size ≡ bytesOf Bits w h → putReason W H x y (w * fx) (h * fy) ≡ imageReason W H x y w h fx fy size
-    unfolding imageReason
-    image-rest l e = rw (l, eq-eqb size (bytesOf Bits w h) e)
+  pub image-rest : isLarge w h fx fy ≡ false → size ≡ bytesOf Bits w h → putReason W H x y (w * fx) (h * fy) ≡ imageReason W H x y w h fx fy size
+  unfolding imageReason
+  image-rest l e = rw (l, eq-eqb size (bytesOf Bits w h) e)
 
 -- the reason of a command, by its kind
 module _ (W H : ℕ) {r : ℕ} {d : Command} where
@@ -115,10 +83,10 @@ pub record PutKept (W H x y w h : ℕ) : Type 0 where
 pub put-kept : (W H x y w h : ℕ) → putReason W H x y w h ≡ done → PutKept W H x y w h
 unfolding putReason
 put-kept W H x y w h e =
-    let a = passed-on (ltb limit w || ltb limit h) (omega arith) e in
-    let b = passed-on (leb W x) (omega arith) (a .1) in
-    let c = neither (ltb limit w) (ltb limit h) (a .0) in
-    record { wide = ltb-false _ _ (c .0); high = ltb-false _ _ (c .1); on = leb-false _ _ (b .0); fits = tall-done _ (b .1) }
+    let a = first-done _ _ e in
+    let b = first-done _ _ (a .1) in
+    let s = side-done w h (a .0) in
+    record { wide = s .0; high = s .1; on = off-done W H true x y (b .0); fits = tall-done _ (b .1) }
 
 pub record ImageKept (W H x y w h fx fy size : ℕ) : Type 0 where
   pub sides : Small w h fx fy
@@ -133,18 +101,18 @@ image-kept W H x y w h fx fy size e =
     record { sides = small w h fx fy (a .0); bytes = eqb-true _ _ (not-not _ (b .0)); put = put-kept W H x y (w * fx) (h * fy) (b .1) }
 
 pub record FlipKept (W H x y w h : ℕ) : Type 0 where
-  pub wide : w ≡ 0 → ⊥
-  pub high : h ≡ 0 → ⊥
+  pub wide : 0 < w
+  pub high : 0 < h
   pub on : x + w ≤ W
   pub fits : max H (y + h) ≤ limit
 
 pub flip-kept : (W H x y w h : ℕ) → flipReason W H x y w h ≡ done → FlipKept W H x y w h
 unfolding flipReason
 flip-kept W H x y w h e =
-    let a = passed-on (eqb w 0 || eqb h 0) (omega arith) e in
-    let b = passed-on (ltb W (x + w)) (omega arith) (a .1) in
-    let c = neither (eqb w 0) (eqb h 0) (a .0) in
-    record { wide = eqb-false _ _ (c .0); high = eqb-false _ _ (c .1); on = ltb-false _ _ (b .0); fits = tall-done _ (b .1) }
+    let a = first-done _ _ e in
+    let b = first-done _ _ (a .1) in
+    let s = empty-done w h (a .0) in
+    record { wide = s .0; high = s .1; on = across-done W x w (b .0); fits = tall-done _ (b .1) }
 
 -- the same of a command, by its kind
 module _ (W H : ℕ) {d : Command} (k : reasonOf W H d ≡ done) where

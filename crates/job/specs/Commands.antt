@@ -57,6 +57,9 @@ soundPaper s kind at n = eqb kind paperKind && eqb n paperSize && leb 1 (le32 s 
 abbrev pub soundMode : ℕ → Bool
 soundMode mode = leb mode 1
 
+abbrev pub multiplies : ℕ → Bool
+multiplies mode = eqb mode 1
+
 -- a command: a body of exactly its kind's size (an image's may hold any number of data bytes), and a mode of 0 or 1
 unfoldable pub soundCommand : List ℕ → ℕ → ℕ → ℕ → Bool
 soundCommand s kind at n =

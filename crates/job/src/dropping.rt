@@ -10,11 +10,13 @@ use images::Format;
 use images::bytes_of;
 use images::factor_of;
 use images::is_large;
-use numbers::EMPTY_AREA;
-use numbers::LIMIT;
-use numbers::OFF_PAPER;
 use numbers::TOO_LARGE;
 use numbers::WRONG_LENGTH;
+use refusals::across_refusal;
+use refusals::empty_refusal;
+use refusals::first;
+use refusals::off_refusal;
+use refusals::side_refusal;
 use refusals::tall_refusal;
 
 // A dropped command: the first after the paper has place 0.
@@ -38,16 +40,11 @@ fn reached(height: u32, y: u32, h: u32) -> usize
 fn put_reason(width: u32, height: u32, x: u32, y: u32, w: u32, h: u32) -> u8
     ensures { λ r. ⌜ r ≡ putReason width height x y w h ⌝ }
 {
-    if w > LIMIT {
-        return TOO_LARGE;
-    }
-    if h > LIMIT {
-        return TOO_LARGE;
-    }
-    if x >= width {
-        return OFF_PAPER;
-    }
-    tall_refusal(reached(height, y, h))
+    let place = first(
+        off_refusal(width, height, true, x, y),
+        tall_refusal(reached(height, y, h)),
+    );
+    first(side_refusal(w, h), place)
 }
 
 fn image_reason(
@@ -77,16 +74,11 @@ fn image_reason(
 fn flip_reason(width: u32, height: u32, x: u32, y: u32, w: u32, h: u32) -> u8
     ensures { λ r. ⌜ r ≡ flipReason width height x y w h ⌝ }
 {
-    if w == 0 {
-        return EMPTY_AREA;
-    }
-    if h == 0 {
-        return EMPTY_AREA;
-    }
-    if x as usize + w as usize > width as usize {
-        return OFF_PAPER;
-    }
-    tall_refusal(reached(height, y, h))
+    let place = first(
+        across_refusal(width, x, w),
+        tall_refusal(reached(height, y, h)),
+    );
+    first(empty_refusal(w, h), place)
 }
 
 pub fn command_reason(width: u32, height: u32, c: Command) -> u8

@@ -3,15 +3,15 @@ use mathlib.Core.Path.{_≡_, refl, sym, _∙_}
 use mathlib.Core.Bool.{Bool, true, false, not, _&&_, _||_, and-false}
 use Prim.Native.Nat.{ℕ, _+_, _-_, _*_, _≤_, _<_, min, max}
 use native.Mathlib.Omega.{arith}
-use lib.Dec.{ltb, leb, eqb}
-use borrow.Author.Tests.{ltb-false, leb-true, leb-false, eqb-false}
-use Rattle.numbers.specs.Numbers.{limit, done}
+use lib.Dec.{ltb}
+use borrow.Author.Tests.{ltb-false, leb-true}
+use Rattle.numbers.specs.Numbers.{done}
 use Rattle.colour.specs.Choice.{if_then_else_}
 use Rattle.colour.proofs.Tests.{and-both, neither}
 use Rattle.thermal_image.specs.declared.ThermalImage.{ThermalImage}
 use Rattle.refusals.specs.Refusals.{first, unsound, growRefusal}
-use Rattle.refusals.proofs.Codes.{first-none, first-done, passed, room-done}
-use Rattle.places.specs.Places.{cropped, cropWide, cropTall, sideRefusal, offRefusal, emptyRefusal, acrossRefusal, resultRefusal, placeRefusal, tallAfter, flips, imageTall, flipTall, flipRefusal, borderRefusal}
+use Rattle.refusals.proofs.Codes.{first-none, first-done, room-done, side-done, off-done, across-done, empty-done}
+use Rattle.places.specs.Places.{cropped, cropWide, cropTall, resultRefusal, placeRefusal, tallAfter, flips, imageTall, flipTall, flipRefusal, borderRefusal}
 use Rattle.places.specs.Steps.{Ready}
 
 -- ---- what cropping leaves
@@ -56,29 +56,6 @@ module _ (t : ThermalImage) (grow : t .«auto_grow» ≡ true) where
   unfolding tallAfter
   tall-grown x y w h = rw (crop-grown x y w h)
 
--- ---- one number
-
-pub side-done : (w h : ℕ) → sideRefusal w h ≡ done → (w ≤ limit) × (h ≤ limit)
-unfolding sideRefusal
-side-done w h e = let a = neither _ _ (passed (ltb limit w || ltb limit h) (omega arith) e) in (ltb-false _ _ (a .0), ltb-false _ _ (a .1))
-
-pub off-done : (t : ThermalImage) (x y : ℕ) → offRefusal t x y ≡ done → x < t .width
-unfolding offRefusal
-off-done t x y e =
-    leb-false _ _ (neither _ _ (passed (leb (t .width) x || (not (t .«auto_grow») && leb (t .height) y)) (omega arith) e) .0)
-
-pub empty-done : (w h : ℕ) → emptyRefusal w h ≡ done → (0 < w) × (0 < h)
-unfolding emptyRefusal
-empty-done w h e =
-    let a = neither _ _ (passed (eqb w 0 || eqb h 0) (omega arith) e) in
-    let f = eqb-false w 0 (a .0) in
-    let g = eqb-false h 0 (a .1) in
-    (omega (arith, f), omega (arith, g))
-
-pub across-done : (t : ThermalImage) (x w : ℕ) → acrossRefusal t x w ≡ done → x + w ≤ t .width
-unfolding acrossRefusal
-across-done t x w e = ltb-false _ _ (passed (ltb (t .width) (x + w)) (omega arith) e)
-
 -- ---- an order
 
 first-both : (a b : ℕ) → a ≡ done → b ≡ done → first a b ≡ done
@@ -101,7 +78,7 @@ place-done t x y w h bytes rows n e more down =
     let c = first-done _ _ (first-done _ _ (b .1) .1) in
     let s = side-done w h (b .0) in
     record {
-      on = off-done t x y (c .0);
+      on = off-done (t .width) (t .height) (t .«auto_grow») x y (c .0);
       wide = s .0;
       tall = s .1;
       more = more;
@@ -157,7 +134,7 @@ flip-done t x y w h n {rows} er e =
     let b = first-done _ _ (a .1) in
     let c = first-done _ _ (b .1) in
     let s = empty-done w h (b .0) in
-    let d = across-done t x w (c .0) in
+    let d = across-done (t .width) x w (c .0) in
     record {
       on = omega arith;
       across = d;

@@ -3,7 +3,8 @@ use mathlib.Core.Path.{_≡_, refl}
 use mathlib.Core.Bool.{true, false}
 use Rattle.colour.specs.Colour.{white}
 use Rattle.thermal_image.specs.Canvas.{canvas}
-use Rattle.places.specs.Places.{cropped, cropWide, cropTall, tallAfter, offRefusal, shortRefusal, flips, imageTall}
+use Rattle.refusals.specs.Refusals.{offRefusal}
+use Rattle.places.specs.Places.{cropped, cropWide, cropTall, tallAfter, shortRefusal, flips, imageTall}
 
 -- a 0 by 0 put at y = 7 makes H = 7
 empty-put : tallAfter (canvas 10 0 true white) 0 7 0 0 ≡ 7
@@ -11,11 +12,11 @@ unfolding tallAfter cropTall cropped
 empty-put = refl
 
 -- x = W − 1 passes, x = W is 5
-last-column : offRefusal (canvas 10 3 true white) 9 0 ≡ 0
+last-column : offRefusal 10 3 true 9 0 ≡ 0
 unfolding offRefusal
 last-column = refl
 
-past-column : offRefusal (canvas 10 3 true white) 10 0 ≡ 5
+past-column : offRefusal 10 3 true 10 0 ≡ 5
 unfolding offRefusal
 past-column = refl
 

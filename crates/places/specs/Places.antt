@@ -2,9 +2,9 @@
 use Prim.Native.Nat.{ℕ, _+_, _-_, _*_, _/_, _%_, min, max}
 use mathlib.Core.Bool.{Bool, not, _&&_, _||_}
 use lib.Dec.{ltb, leb, eqb}
-use Rattle.numbers.specs.Numbers.{limit, done, tooLarge, wrongLength, offPaper, tooMany, short, emptyArea}
+use Rattle.numbers.specs.Numbers.{done, wrongLength, tooMany, short}
 use Rattle.colour.specs.Choice.{if_then_else_}
-use Rattle.refusals.specs.Refusals.{first, unsound, tallRefusal, roomRefusal}
+use Rattle.refusals.specs.Refusals.{first, unsound, tallRefusal, roomRefusal, sideRefusal, offRefusal, acrossRefusal, emptyRefusal}
 use Rattle.thermal_image.specs.declared.ThermalImage.{ThermalImage}
 
 -- ---- cropping
@@ -37,36 +37,20 @@ flips upside t x w h = upside && ltb 0 w && ltb 0 h && leb (x + w) (t .width)
 unfoldable pub imageTall : Bool → ThermalImage → ℕ → ℕ → ℕ → ℕ → ℕ
 imageTall upside t x y w h = if flips upside t x w h then max (tallAfter t x y w h) (y + h) else tallAfter t x y w h
 
--- ---- the numbers
+-- ---- the numbers; 2, 5 and 10 stand in Refusals
 
 -- 3: no whole number of pixels
 unfoldable pub lengthRefusal : ℕ → ℕ
 lengthRefusal bytes = if eqb (bytes % 4) 0 then done else wrongLength
 
--- 2: a side above the limit
-unfoldable pub sideRefusal : ℕ → ℕ → ℕ
-sideRefusal w h = if ltb limit w || ltb limit h then tooLarge else done
-
 -- 6: more pixels than w·h
 unfoldable pub manyRefusal : ℕ → ℕ → ℕ → ℕ
 manyRefusal w h pixels = if ltb (w * h) pixels then tooMany else done
-
--- 5: x ≥ W, or growth off and y ≥ H
-unfoldable pub offRefusal : ThermalImage → ℕ → ℕ → ℕ
-offRefusal t x y = if leb (t .width) x || (not (t .«auto_grow») && leb (t .height) y) then offPaper else done
 
 -- 7: cropping would read a pixel not given
 unfoldable pub shortRefusal : ThermalImage → ℕ → ℕ → ℕ → ℕ → ℕ → ℕ
 shortRefusal t x y w h pixels =
     if cropped t x y w && ltb 0 (cropTall t x y w h) && ltb pixels ((cropTall t x y w h - 1) * w + cropWide t x y w) then short else done
-
--- 10: no area
-unfoldable pub emptyRefusal : ℕ → ℕ → ℕ
-emptyRefusal w h = if eqb w 0 || eqb h 0 then emptyArea else done
-
--- 5, for a flip: x + w > W
-unfoldable pub acrossRefusal : ThermalImage → ℕ → ℕ → ℕ
-acrossRefusal t x w = if ltb (t .width) (x + w) then offPaper else done
 
 -- 8, 1: the canvas that results, W wide with that many rows
 unfoldable pub resultRefusal : ℕ → ℕ → ℕ → ℕ
@@ -81,7 +65,7 @@ placeRefusal t x y w h bytes rows n =
     (first (lengthRefusal bytes)
     (first (sideRefusal w h)
     (first (manyRefusal w h (bytes / 4))
-    (first (offRefusal t x y)
+    (first (offRefusal (t .width) (t .height) (t .«auto_grow») x y)
     (first (shortRefusal t x y w h (bytes / 4))
     (resultRefusal (t .width) rows n))))))
 
@@ -102,7 +86,7 @@ unfoldable pub flipRefusal : ThermalImage → ℕ → ℕ → ℕ → ℕ → �
 flipRefusal t x y w h n =
     first (unsound (t .width) (t .height) n)
     (first (emptyRefusal w h)
-    (first (acrossRefusal t x w)
+    (first (acrossRefusal (t .width) x w)
     (resultRefusal (t .width) (flipTall t y h) n)))
 
 -- a border on a picture that fills the first 4·w·h bytes of a buffer: 2, 10, 1

@@ -2,20 +2,21 @@
 // usize.
 ghost use mathlib.Core.Path.{_≡_};
 ghost use Prim.Native.Nat.{_*_};
-ghost use Rattle.places.specs.Places.{lengthRefusal, sideRefusal, manyRefusal, offRefusal, shortRefusal, emptyRefusal, acrossRefusal, resultRefusal, placeRefusal, flipRefusal, borderRefusal};
+ghost use Rattle.places.specs.Places.{lengthRefusal, manyRefusal, shortRefusal, resultRefusal, placeRefusal, flipRefusal, borderRefusal};
 use super::sizes::crop_pixels;
 use super::sizes::cropped;
 use super::sizes::flip_tall;
 use numbers::DONE;
-use numbers::EMPTY_AREA;
-use numbers::OFF_PAPER;
 use numbers::SHORT;
-use numbers::TOO_LARGE;
 use numbers::TOO_MANY;
 use numbers::TOO_TALL;
 use numbers::WRONG_LENGTH;
+use refusals::across_refusal;
+use refusals::empty_refusal;
 use refusals::first;
+use refusals::off_refusal;
 use refusals::room_refusal;
+use refusals::side_refusal;
 use refusals::unsound;
 use thermal_image::ThermalImage;
 
@@ -28,38 +29,11 @@ fn length_refusal(bytes: usize) -> u8
     DONE
 }
 
-fn side_refusal(w: u32, h: u32) -> u8
-    ensures { λ r. ⌜ r ≡ sideRefusal w h ⌝ }
-{
-    if w > ThermalImage::LIMIT {
-        return TOO_LARGE;
-    }
-    if h > ThermalImage::LIMIT {
-        return TOO_LARGE;
-    }
-    DONE
-}
-
 fn many_refusal(w: u32, h: u32, pixels: usize) -> u8
     ensures { λ r. ⌜ r ≡ manyRefusal w h pixels ⌝ }
 {
     if (w as usize * h as usize) < pixels {
         return TOO_MANY;
-    }
-    DONE
-}
-
-fn off_refusal(t: ThermalImage, x: u32, y: u32) -> u8
-    ensures { λ r. ⌜ r ≡ offRefusal t x y ⌝ }
-{
-    if t.width <= x {
-        return OFF_PAPER;
-    }
-    if t.auto_grow {
-        return DONE;
-    }
-    if t.height <= y {
-        return OFF_PAPER;
     }
     DONE
 }
@@ -76,27 +50,6 @@ fn short_refusal(t: ThermalImage, x: u32, y: u32, w: u32, h: u32, pixels: usize)
     }
     if pixels < (c.h - 1) as usize * w as usize + c.w as usize {
         return SHORT;
-    }
-    DONE
-}
-
-fn empty_refusal(w: u32, h: u32) -> u8
-    ensures { λ r. ⌜ r ≡ emptyRefusal w h ⌝ }
-{
-    if w == 0 {
-        return EMPTY_AREA;
-    }
-    if h == 0 {
-        return EMPTY_AREA;
-    }
-    DONE
-}
-
-fn across_refusal(t: ThermalImage, x: u32, w: u32) -> u8
-    ensures { λ r. ⌜ r ≡ acrossRefusal t x w ⌝ }
-{
-    if (t.width as usize) < x as usize + w as usize {
-        return OFF_PAPER;
     }
     DONE
 }
@@ -127,7 +80,7 @@ pub fn place_refusal(
         short_refusal(t, x, y, w, h, bytes / 4),
         result_refusal(t.width, rows, n),
     );
-    let place = first(off_refusal(t, x, y), end);
+    let place = first(off_refusal(t.width, t.height, t.auto_grow, x, y), end);
     let many = first(many_refusal(w, h, bytes / 4), place);
     let pixels = first(length_refusal(bytes), first(side_refusal(w, h), many));
     first(unsound(t.width, t.height, n), pixels)
@@ -137,7 +90,10 @@ pub fn place_refusal(
 pub fn rect_refusal(t: ThermalImage, x: u32, y: u32, w: u32, h: u32, rows: usize, n: usize) -> u8
     ensures { λ r. ⌜ r ≡ placeRefusal t x y w h (4 * (w * h)) rows n ⌝ }
 {
-    let place = first(off_refusal(t, x, y), result_refusal(t.width, rows, n));
+    let place = first(
+        off_refusal(t.width, t.height, t.auto_grow, x, y),
+        result_refusal(t.width, rows, n),
+    );
     first(
         unsound(t.width, t.height, n),
         first(side_refusal(w, h), place),
@@ -148,7 +104,7 @@ pub fn flip_refusal(t: ThermalImage, x: u32, y: u32, w: u32, h: u32, n: usize) -
     ensures { λ r. ⌜ r ≡ flipRefusal t x y w h n ⌝ }
 {
     let place = first(
-        across_refusal(t, x, w),
+        across_refusal(t.width, x, w),
         result_refusal(t.width, flip_tall(t, y, h), n),
     );
     first(

@@ -1,14 +1,14 @@
 -- From tests to a refusal's number, and from number 0 to what was tested. Assumes nothing.
-use mathlib.Core.Path.{_≡_, refl}
-use mathlib.Core.Bool.{Bool, true, false, _&&_, _||_}
+use mathlib.Core.Path.{_≡_, refl, sym}
+use mathlib.Core.Bool.{Bool, true, false, not, _&&_, _||_}
 use Prim.Native.Nat.{ℕ, _+_, _*_, _/_, _≤_, _<_, max}
 use native.Mathlib.Omega.{arith}
-use lib.Dec.{ltb, eqb}
-use borrow.Author.Tests.{ltb-false, eqb-true, eqb-false, lt-ltb, le-ltb, lt-leb, eq-eqb, ne-eqb}
+use lib.Dec.{ltb, leb, eqb}
+use borrow.Author.Tests.{ltb-false, leb-false, eqb-true, eqb-false, lt-ltb, le-ltb, lt-leb, eq-eqb, ne-eqb}
 use Rattle.numbers.specs.Numbers.{limit, done, badCanvas}
 use Rattle.colour.specs.Choice.{if_then_else_}
 use Rattle.colour.proofs.Tests.{neither}
-use Rattle.refusals.specs.Refusals.{first, unsound, tallRefusal, wideRefusal, roomRefusal, rgbRoomRefusal, rowsOf, growRefusal, marginRefusal, widthRefusal, widenRefusal, outRefusal, rgbRefusal}
+use Rattle.refusals.specs.Refusals.{first, unsound, tallRefusal, wideRefusal, roomRefusal, rgbRoomRefusal, sideRefusal, offRefusal, acrossRefusal, emptyRefusal, rowsOf, growRefusal, marginRefusal, widthRefusal, widenRefusal, outRefusal, rgbRefusal}
 
 -- ---- one number after another
 
@@ -36,6 +36,15 @@ first-done a b = go (eqb a done) refl
     go true e r = (eqb-true a done e, r)
     go false e r = absurd (eqb-false a done e r)
 
+-- an order, however its numbers are taken together
+pub first-then : (a b c : ℕ) → first (first a b) c ≡ first a (first b c)
+unfolding first
+first-then a b c = go (eqb a done) refl
+  where
+    go : (t : Bool) → eqb a done ≡ t → first (if t then b else a) c ≡ (if t then first b c else a)
+    go true e = refl
+    go false e = sym (first-some a c (eqb-false a done e))
+
 -- a test that gave 0 failed, and what comes after it gave 0
 pub passed-on : (t : Bool) {k r : ℕ} → 0 < k → (if t then k else r) ≡ done → (t ≡ false) × (r ≡ done)
 passed-on true h e = absurd (omega arith)
@@ -61,6 +70,28 @@ room-done w h n e = ltb-false n (4 * (w * h)) (passed (ltb n (4 * (w * h))) (ome
 pub rgb-room-done : (w h n : ℕ) → rgbRoomRefusal w h n ≡ done → 3 * (w * h) ≤ n
 unfolding rgbRoomRefusal
 rgb-room-done w h n e = ltb-false n (3 * (w * h)) (passed (ltb n (3 * (w * h))) (omega arith) e)
+
+-- ---- 2, 5 and 10 of what is drawn
+
+pub side-done : (w h : ℕ) → sideRefusal w h ≡ done → (w ≤ limit) × (h ≤ limit)
+unfolding sideRefusal
+side-done w h e = let a = neither _ _ (passed (ltb limit w || ltb limit h) (omega arith) e) in (ltb-false _ _ (a .0), ltb-false _ _ (a .1))
+
+pub off-done : (W H : ℕ) (grow : Bool) (x y : ℕ) → offRefusal W H grow x y ≡ done → x < W
+unfolding offRefusal
+off-done W H grow x y e = leb-false _ _ (neither _ _ (passed (leb W x || (not grow && leb H y)) (omega arith) e) .0)
+
+pub across-done : (W x w : ℕ) → acrossRefusal W x w ≡ done → x + w ≤ W
+unfolding acrossRefusal
+across-done W x w e = ltb-false _ _ (passed (ltb W (x + w)) (omega arith) e)
+
+pub empty-done : (w h : ℕ) → emptyRefusal w h ≡ done → (0 < w) × (0 < h)
+unfolding emptyRefusal
+empty-done w h e =
+    let a = neither _ _ (passed (eqb w 0 || eqb h 0) (omega arith) e) in
+    let f = eqb-false w 0 (a .0) in
+    let g = eqb-false h 0 (a .1) in
+    (omega (arith, f), omega (arith, g))
 
 -- ---- 9
 

@@ -6,6 +6,10 @@ use Rattle.refusals.proofs.larger.Reads as larger
 use Rattle.refusals.proofs.tall_refusal.Reads as tall-refusal
 use Rattle.refusals.proofs.wide_refusal.Reads as wide-refusal
 use Rattle.refusals.proofs.room_refusal.Reads as room-refusal
+use Rattle.refusals.proofs.drawn.side_refusal.Reads as side-refusal
+use Rattle.refusals.proofs.drawn.off_refusal.Reads as off-refusal
+use Rattle.refusals.proofs.drawn.across_refusal.Reads as across-refusal
+use Rattle.refusals.proofs.drawn.empty_refusal.Reads as empty-refusal
 use Rattle.refusals.proofs.unsound.Reads as unsound
 use Rattle.refusals.proofs.grow_refusal.Reads as grow-refusal
 use Rattle.refusals.proofs.margin_refusal.Reads as margin-refusal
@@ -31,6 +35,18 @@ wide-refusal-one k a x y e f p q = both p q
 
 room-refusal-one : OneAnswer room-refusal.Post
 room-refusal-one k a x y e f p q = both p q
+
+side-refusal-one : OneAnswer side-refusal.Post
+side-refusal-one k a x y e f p q = both p q
+
+off-refusal-one : OneAnswer off-refusal.Post
+off-refusal-one k a x y e f p q = both p q
+
+across-refusal-one : OneAnswer across-refusal.Post
+across-refusal-one k a x y e f p q = both p q
+
+empty-refusal-one : OneAnswer empty-refusal.Post
+empty-refusal-one k a x y e f p q = both p q
 
 unsound-one : OneAnswer unsound.Post
 unsound-one k a x y e f p q = both p q

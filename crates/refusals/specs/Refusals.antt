@@ -1,8 +1,8 @@
--- What the canvas's own operations are refused for, by sizes and lengths alone: 01, "Canvas". The canvas is W by H dots, and n is the length of its buffer. Number 8 is a job's too.
+-- What the canvas's own operations are refused for, by sizes and lengths alone: 01, "Canvas". The canvas is W by H dots, and n is the length of its buffer. Jobs share its numbers 8 and 1, and 2, 5 and 10 of what is drawn.
 use Prim.Native.Nat.{ℕ, _+_, _*_, max}
-use mathlib.Core.Bool.{_&&_, _||_}
+use mathlib.Core.Bool.{Bool, not, _&&_, _||_}
 use lib.Dec.{ltb, leb, eqb}
-use Rattle.numbers.specs.Numbers.{limit, done, noRoom, tooLarge, tooTall, badCanvas}
+use Rattle.numbers.specs.Numbers.{limit, done, noRoom, tooLarge, offPaper, tooTall, badCanvas, emptyArea}
 use Rattle.colour.specs.Choice.{if_then_else_}
 
 -- the first number that is not 0
@@ -34,6 +34,24 @@ roomRefusal W H n = if ltb n (4 * (W * H)) then noRoom else done
 -- 1, of RGB output, which writes 3 bytes a dot
 unfoldable pub rgbRoomRefusal : ℕ → ℕ → ℕ → ℕ
 rgbRoomRefusal W H n = if ltb n (3 * (W * H)) then noRoom else done
+
+-- ---- the numbers of what is drawn, w by h at (x, y)
+
+-- 2: a side above the limit
+unfoldable pub sideRefusal : ℕ → ℕ → ℕ
+sideRefusal w h = if ltb limit w || ltb limit h then tooLarge else done
+
+-- 5: x ≥ W, or growth off and y ≥ H
+unfoldable pub offRefusal : ℕ → ℕ → Bool → ℕ → ℕ → ℕ
+offRefusal W H grow x y = if leb W x || (not grow && leb H y) then offPaper else done
+
+-- 5, for a flip: x + w > W
+unfoldable pub acrossRefusal : ℕ → ℕ → ℕ → ℕ
+acrossRefusal W x w = if ltb W (x + w) then offPaper else done
+
+-- 10: no area
+unfoldable pub emptyRefusal : ℕ → ℕ → ℕ
+emptyRefusal w h = if eqb w 0 || eqb h 0 then emptyArea else done
 
 -- ---- the orders
 

@@ -1,9 +1,15 @@
 // What the canvas's own operations are refused for, from sizes and lengths alone: of a canvas w by h
-// whose buffer has n bytes. A job's height is refused for the same. Inner steps, which take any
-// numbers.
+// whose buffer has n bytes. Jobs are refused for its height and its room too. Inner steps, which take
+// any numbers.
+mod drawn;
+
 ghost use mathlib.Core.Path.{_≡_};
 ghost use Prim.Native.Nat.{max};
 ghost use Rattle.refusals.specs.Refusals.{first, rowsOf, unsound, tallRefusal, wideRefusal, roomRefusal, rgbRoomRefusal, growRefusal, marginRefusal, widenRefusal, widthRefusal, outRefusal, rgbRefusal};
+pub use drawn::across_refusal;
+pub use drawn::empty_refusal;
+pub use drawn::off_refusal;
+pub use drawn::side_refusal;
 use numbers::BAD_CANVAS;
 use numbers::DONE;
 use numbers::LIMIT;

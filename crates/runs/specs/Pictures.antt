@@ -12,7 +12,7 @@ use Rattle.images.specs.Stretching.{factor, pixelOf}
 use Rattle.areas.specs.Areas.{inArea}
 use Rattle.job.specs.declared.commands.Command.{Command}
 use Rattle.job.specs.declared.commands.Command.the-variants.{Rectangle, Image, Margin, Flip}
-use Rattle.entries.specs.Entries.{multiplies}
+use Rattle.job.specs.Commands.{multiplies}
 
 -- a dot for each column and row, however far down: growing only shows more of it
 abbrev pub Picture : Type 0

@@ -1,21 +1,12 @@
 -- `job::dropping::flip_reason` meets its contract. Assumes nothing.
-use mathlib.Core.Logic.{inl, inr}
-use Rattle.job.proofs.Reasons.{flip-empty, flip-off, flip-rest}
+use mathlib.Core.Path.{_∙_}
+use Rattle.job.specs.Dropping.{flipReason}
 use borrow.Author.Needs.{needs}
 use Rattle.job.proofs.dropping.flip_reason.Statement.{statement}
 use Rattle.job.proofs.dropping.flip_reason.Tie as tie
 
-returns : tie.Need-returns
-returns c = flip-empty _ _ _ _ _ _ (inl (c .if1 .taken))
-
-returns-2 : tie.Need-returns-2
-returns-2 c = flip-empty _ _ _ _ _ _ (inr (c .if2 .taken))
-
-add-if3 : tie.Need-add-if3
-add-if3 c = search needs
-
-returns-3 : tie.Need-returns-3
-returns-3 c = flip-off _ _ _ _ _ _ (c .before .before .if1 .left) (c .before .if2 .left) (c .if3 .taken)
+across-refusal-requires : tie.Need-across-refusal-requires
+across-refusal-requires c κs = search needs
 
 reached-requires : tie.Need-reached-requires
 reached-requires c κs = search needs
@@ -23,10 +14,32 @@ reached-requires c κs = search needs
 tall-refusal-requires : tie.Need-tall-refusal-requires
 tall-refusal-requires c κs = search needs
 
-returns-4 : tie.Need-returns-4
-returns-4 c = let e = c .before .before in flip-rest _ _ _ _ _ _ (e .before .before .if1 .left) (e .before .if2 .left) (e .if3 .left) (c .before .reached .ensures) (c .tall-refusal .ensures)
+first-requires : tie.Need-first-requires
+first-requires c κs = search needs
+
+empty-refusal-requires : tie.Need-empty-refusal-requires
+empty-refusal-requires c κs = search needs
+
+first-requires-2 : tie.Need-first-requires-2
+first-requires-2 c κs = search needs
+
+returns : tie.Need-returns
+unfolding flipReason
+returns c =
+    let s = c .before in
+    let f = s .before in
+    let t = f .before in
+    let r = t .before in
+    c .first2 .ensures ∙ rw (s .empty-refusal .ensures, f .first .ensures, r .before .across-refusal .ensures, t .tall-refusal .ensures, r .reached .ensures)
 
 pub flip-reason-spec : {M : Type 1} → statement M
 flip-reason-spec =
     tie.close
-    (tie.spec returns returns-2 add-if3 returns-3 reached-requires tall-refusal-requires returns-4)
+    (tie.spec
+    across-refusal-requires
+    reached-requires
+    tall-refusal-requires
+    first-requires
+    empty-refusal-requires
+    first-requires-2
+    returns)

@@ -1,17 +1,12 @@
 -- `job::dropping::put_reason` meets its contract. Assumes nothing.
-use Rattle.job.proofs.Reasons.{put-wide, put-high, put-off, put-rest}
+use mathlib.Core.Path.{_∙_}
+use Rattle.job.specs.Dropping.{putReason}
 use borrow.Author.Needs.{needs}
 use Rattle.job.proofs.dropping.put_reason.Statement.{statement}
 use Rattle.job.proofs.dropping.put_reason.Tie as tie
 
-returns : tie.Need-returns
-returns c = put-wide _ _ _ _ _ _ (c .if1 .taken)
-
-returns-2 : tie.Need-returns-2
-returns-2 c = put-high _ _ _ _ _ _ (c .if2 .taken)
-
-returns-3 : tie.Need-returns-3
-returns-3 c = put-off _ _ _ _ _ _ (c .before .before .if1 .left) (c .before .if2 .left) (c .if3 .taken)
+off-refusal-requires : tie.Need-off-refusal-requires
+off-refusal-requires c κs = search needs
 
 reached-requires : tie.Need-reached-requires
 reached-requires c κs = search needs
@@ -19,10 +14,32 @@ reached-requires c κs = search needs
 tall-refusal-requires : tie.Need-tall-refusal-requires
 tall-refusal-requires c κs = search needs
 
-returns-4 : tie.Need-returns-4
-returns-4 c = let e = c .before .before in put-rest _ _ _ _ _ _ (e .before .before .if1 .left) (e .before .if2 .left) (e .if3 .left) (c .before .reached .ensures) (c .tall-refusal .ensures)
+first-requires : tie.Need-first-requires
+first-requires c κs = search needs
+
+side-refusal-requires : tie.Need-side-refusal-requires
+side-refusal-requires c κs = search needs
+
+first-requires-2 : tie.Need-first-requires-2
+first-requires-2 c κs = search needs
+
+returns : tie.Need-returns
+unfolding putReason
+returns c =
+    let s = c .before in
+    let f = s .before in
+    let t = f .before in
+    let r = t .before in
+    c .first2 .ensures ∙ rw (s .side-refusal .ensures, f .first .ensures, r .before .off-refusal .ensures, t .tall-refusal .ensures, r .reached .ensures)
 
 pub put-reason-spec : {M : Type 1} → statement M
 put-reason-spec =
     tie.close
-    (tie.spec returns returns-2 returns-3 reached-requires tall-refusal-requires returns-4)
+    (tie.spec
+    off-refusal-requires
+    reached-requires
+    tall-refusal-requires
+    first-requires
+    side-refusal-requires
+    first-requires-2
+    returns)

@@ -1,8 +1,8 @@
--- `places::rules::empty_refusal` meets its contract. Assumes nothing.
+-- `refusals::drawn::empty_refusal` meets its contract. Assumes nothing.
 use borrow.Author.Tests.{eq-eqb, ne-eqb}
-use Rattle.places.specs.Places.{emptyRefusal}
-use Rattle.places.proofs.rules.empty_refusal.Statement.{statement}
-use Rattle.places.proofs.rules.empty_refusal.Tie as tie
+use Rattle.refusals.specs.Refusals.{emptyRefusal}
+use Rattle.refusals.proofs.drawn.empty_refusal.Statement.{statement}
+use Rattle.refusals.proofs.drawn.empty_refusal.Tie as tie
 
 returns : tie.Need-returns
 unfolding emptyRefusal

@@ -1,8 +1,8 @@
--- `places::rules::side_refusal` meets its contract. Assumes nothing.
+-- `refusals::drawn::side_refusal` meets its contract. Assumes nothing.
 use borrow.Author.Tests.{lt-ltb, le-ltb}
-use Rattle.places.specs.Places.{sideRefusal}
-use Rattle.places.proofs.rules.side_refusal.Statement.{statement}
-use Rattle.places.proofs.rules.side_refusal.Tie as tie
+use Rattle.refusals.specs.Refusals.{sideRefusal}
+use Rattle.refusals.proofs.drawn.side_refusal.Statement.{statement}
+use Rattle.refusals.proofs.drawn.side_refusal.Tie as tie
 
 returns : tie.Need-returns
 unfolding sideRefusal
