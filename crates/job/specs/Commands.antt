@@ -57,6 +57,7 @@ soundPaper s kind at n = eqb kind paperKind && eqb n paperSize && leb 1 (le32 s 
 abbrev pub soundMode : ℕ → Bool
 soundMode mode = leb mode 1
 
+-- mode 1 multiplies
 abbrev pub multiplies : ℕ → Bool
 multiplies mode = eqb mode 1
 

@@ -37,7 +37,7 @@ flips upside t x w h = upside && ltb 0 w && ltb 0 h && leb (x + w) (t .width)
 unfoldable pub imageTall : Bool → ThermalImage → ℕ → ℕ → ℕ → ℕ → ℕ
 imageTall upside t x y w h = if flips upside t x w h then max (tallAfter t x y w h) (y + h) else tallAfter t x y w h
 
--- ---- the numbers; 2, 5 and 10 stand in Refusals
+-- ---- the numbers 3, 6, 7, and 8 with 1; the others stand in Refusals
 
 -- 3: no whole number of pixels
 unfoldable pub lengthRefusal : ℕ → ℕ

@@ -1,4 +1,4 @@
--- What the canvas's own operations are refused for, by sizes and lengths alone: 01, "Canvas". The canvas is W by H dots, and n is the length of its buffer. Jobs share its numbers 8 and 1, and 2, 5 and 10 of what is drawn.
+-- What the canvas's own operations are refused for, and 2, 5 and 10 of what is drawn on it, by sizes and lengths alone: 01, "Canvas". The canvas is W by H dots, and n is the length of its buffer. Jobs share 2, 5, 8, 10 and 1.
 use Prim.Native.Nat.{ℕ, _+_, _*_, max}
 use mathlib.Core.Bool.{Bool, not, _&&_, _||_}
 use lib.Dec.{ltb, leb, eqb}

@@ -1,5 +1,5 @@
-// What is drawn, w by h at (x, y), is refused for these, by the canvas and by jobs alike. The canvas is
-// `wide` by `tall`.
+// What drawing w by h at (x, y) on a canvas `wide` by `tall` is refused for, and commands of a job are
+// dropped for; a border by its sizes alone.
 ghost use mathlib.Core.Path.{_≡_};
 ghost use Rattle.refusals.specs.Refusals.{sideRefusal, offRefusal, acrossRefusal, emptyRefusal};
 use numbers::DONE;

@@ -1,6 +1,6 @@
 // What the canvas's own operations are refused for, from sizes and lengths alone: of a canvas w by h
-// whose buffer has n bytes. Jobs are refused for its height and its room too. Inner steps, which take
-// any numbers.
+// whose buffer has n bytes. A job's commands are dropped for the same height, and its run is refused
+// for the same room. Inner steps, which take any numbers.
 mod drawn;
 
 ghost use mathlib.Core.Path.{_≡_};
