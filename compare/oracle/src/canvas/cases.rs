@@ -324,26 +324,26 @@ fn damaged(record: &Record, random: &mut Random) -> Record {
 /// Every alpha, and often those that have rules of their own.
 pub fn color(random: &mut Random) -> u32 {
     let [r, g, b, a] = random.u32().to_le_bytes();
-    let a = match random.below(4) {
-        0 => 0,
-        1 => 255,
-        _ => a,
-    };
+    let a = random.one_of(&[0, 255, a, a]);
     u32::from_le_bytes([r, g, b, a])
 }
 
 /// Dots that are opaque, either opaque or clear, or of every alpha.
 pub fn dots(count: usize, random: &mut Random) -> Vec<u8> {
-    let kind = random.below(4);
-    let mut dots = Vec::with_capacity(4 * count);
-    for _ in 0..count {
-        let dot = match kind {
-            0 => random.u32() | 0xff00_0000,
-            1 => random.u32() & 0x00ff_ffff | [0, 0xff00_0000][random.below(2)],
-            2 => color(random),
-            _ => random.u32(),
-        };
-        dots.extend(dot.to_le_bytes());
+    match random.below(4) {
+        0 => each(count, || random.u32() | 0xff00_0000),
+        1 => each(count, || {
+            random.u32() & 0x00ff_ffff | random.one_of(&[0, 0xff00_0000])
+        }),
+        2 => each(count, || color(random)),
+        _ => each(count, || random.u32()),
+    }
+}
+
+fn each(count: usize, mut dot: impl FnMut() -> u32) -> Vec<u8> {
+    let mut dots = vec![0; 4 * count];
+    for bytes in dots.chunks_exact_mut(4) {
+        bytes.copy_from_slice(&dot().to_le_bytes());
     }
     dots
 }
