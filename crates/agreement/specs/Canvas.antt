@@ -20,7 +20,7 @@ use Rattle.job.specs.Dropping.{reasonOf, heightAfter, jobDropped}
 use Rattle.thermal_image.specs.declared.ThermalImage.{ThermalImage}
 use Rattle.thermal_image.specs.declared.Answer.{Answer}
 use Rattle.refusals.specs.Refusals.{first, unsound, roomRefusal, marginRefusal}
-use Rattle.thermal_image.specs.Canvas.{canvas, finished, lowered, lowerOn}
+use Rattle.thermal_image.specs.Canvas.{canvas, finished, margined, marginedOn}
 use Rattle.places.specs.Places.{putRefusal, rectRefusal, flipRefusal}
 use Rattle.drawing.specs.Drawing.{put, putOn, rect, rectOn, flip, flipOn}
 use Rattle.runs.specs.Steps.{obeyedOn}
@@ -56,8 +56,8 @@ outcome s out t l (Image x y w h sx sy c mode start size) =
     imageOutcome (d .number) mode x y (d .w) (d .h) (decodedOn Bits (dataOf s start size) w h sx sy c out) t l
 outcome s out t l (Margin m) = record {
   number = marginRefusal (t .width) (t .height) m (length l);
-  answer = lowered t m (length l);
-  bytes = lowerOn t m l;
+  answer = margined t m (length l);
+  bytes = marginedOn t m l;
 }
 outcome s out t l (Flip x y w h) = record {
   number = flipRefusal t x y w h (length l);

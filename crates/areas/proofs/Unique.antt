@@ -1,6 +1,6 @@
 -- Each public function's contract leaves one content of the buffer. Assumes nothing.
 use denote.Ref.{now}
-use Rattle.colour.proofs.OneAnswer.{OneContent, both}
+use Rattle.numbers.proofs.OneAnswer.{OneContent, both}
 use Rattle.areas.proofs.draw.draw_area.Reads as draw-area
 use Rattle.areas.proofs.put.put_area.Reads as put-area
 use Rattle.areas.proofs.flip.flip_area.Reads as flip-area

@@ -1,20 +1,12 @@
 // Pixels drawn on an area, blending or multiplying.
 ghost use mathlib.Core.Path.{_≡_};
-ghost use Prim.Native.Nat.{_+_, _-_, _*_, _≤_, min};
+ghost use Prim.Native.Nat.{_+_, _-_, _*_, _≤_};
 ghost use lib.ListN.{length};
 ghost use Rattle.numbers.specs.Numbers.{limit};
 ghost use Rattle.dots.specs.Dots.{change, within};
 ghost use Rattle.areas.specs.Areas.{Fits, areaOn, pixelDrawn};
+use numbers::smaller;
 use pixels::put_run;
-
-fn smaller(a: usize, b: usize) -> usize
-    ensures { λ r. ⌜ r ≡ min a b ⌝ }
-{
-    if a < b {
-        return a;
-    }
-    b
-}
 
 // A row for which there may be fewer pixels than dots, or none.
 fn put_row(

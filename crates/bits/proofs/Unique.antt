@@ -1,6 +1,6 @@
 -- Each public function's contract leaves one answer or one content of the buffer. Assumes nothing.
 use denote.Ref.{now}
-use Rattle.colour.proofs.OneAnswer.{OneContent, both}
+use Rattle.numbers.proofs.OneAnswer.{OneContent, both}
 use Rattle.bits.proofs.unpack.unpack_row.Reads as unpack-row
 use Rattle.bits.proofs.stamp.stamp_row.Reads as stamp-row
 

@@ -1,17 +1,8 @@
-// A bit of a row, and the dots that are left of one.
+// A bit of a row.
 ghost use mathlib.Core.Path.{_≡_};
-ghost use Prim.Native.Nat.{_+_, _/_, _<_, min};
+ghost use Prim.Native.Nat.{_+_, _/_, _<_};
 ghost use lib.ListN.{length};
 ghost use Rattle.bits.specs.Bits.{bitAt};
-
-pub(crate) fn least(a: usize, b: usize) -> usize
-    ensures { λ r. ⌜ r ≡ min a b ⌝ }
-{
-    if a < b {
-        return a;
-    }
-    b
-}
 
 pub(crate) fn bit_at(data: &[u8], from: usize, x: usize) -> u8
     requires { ⌜ from + x / 8 < length (now «data») ⌝ }

@@ -11,10 +11,10 @@ ghost use Rattle.dots.specs.Tables.{lanes, factors, terms};
 ghost use Rattle.bits.specs.Bits.{Shown, bitsOn, alphaDrawn};
 ghost use Rattle.bits.specs.Steps.{byteOn, bitOn};
 use super::bit::bit_at;
-use super::bit::least;
 use colour::RGBA;
 use dots::mix_byte;
 use dots::mix_run;
+use numbers::smaller;
 
 fn stamp_byte(on: bool, s: u8, m: u16, k: u16) -> u8
     requires { ⌜ 255 * m + k ≤ 65153 ⌝ }
@@ -105,7 +105,7 @@ fn stamp_eights(
     ];
     let mut i = 0;
     while i < count {
-        let n = least(8, count - i);
+        let n = smaller(8, count - i);
         stamp_some(
             buf,
             at + i,
@@ -162,7 +162,7 @@ fn stamp_stretched(
     let mut x = 0;
     let mut i = 0;
     while i < count {
-        let n = least(fx, count - i);
+        let n = smaller(fx, count - i);
         let bit = bit_at(data, from, x);
         stamp_bit(buf, at + i, n, bit, color, multiply, m, k);
         i += n;

@@ -11,11 +11,11 @@ ghost use Rattle.dots.specs.Dots.{tab};
 ghost use Rattle.bits.specs.Bits.{landed, Shown, bitsOn, alphaLanded};
 ghost use Rattle.bits.specs.Steps.{byteOn, bitOn};
 use super::bit::bit_at;
-use super::bit::least;
 use colour::RGBA;
 use dots::fill_run;
 use dots::get_dot;
 use dots::set_dot;
+use numbers::smaller;
 
 // Bits go either way at random, so all ways meet here and the compiler makes a choice of them, and
 // no branch.
@@ -70,7 +70,7 @@ fn unpack_eights(
     let masks = [128, 64, 32, 16, 8, 4, 2, 1];
     let mut i = 0;
     while i < count {
-        let n = least(8, count - i);
+        let n = smaller(8, count - i);
         unpack_some(out, at + i, data[from + i / 8], n, &masks, color, blend);
         i += n;
     }
@@ -114,7 +114,7 @@ fn unpack_stretched(
     let mut x = 0;
     let mut i = 0;
     while i < count {
-        let n = least(fx, count - i);
+        let n = smaller(fx, count - i);
         let bit = bit_at(data, from, x);
         unpack_bit(out, at + i, n, bit, color, blend);
         i += n;

@@ -8,5 +8,4 @@ mod Halves
 mod Doubled
 pub mod Tests
 pub mod Laws
-pub mod OneAnswer
 mod Unique

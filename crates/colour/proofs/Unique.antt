@@ -1,5 +1,5 @@
 -- Each public function's contract leaves one answer. Assumes nothing.
-use Rattle.colour.proofs.OneAnswer.{OneAnswer, both}
+use Rattle.numbers.proofs.OneAnswer.{OneAnswer, both}
 use Rattle.colour.proofs.channel.blend_channel.Reads as blend-channel
 use Rattle.colour.proofs.channel.multiply_channel.Reads as multiply-channel
 use Rattle.colour.proofs.RGBA.blank.Reads as blank

@@ -1,6 +1,6 @@
 -- Each public function's contract leaves one answer or one content of the buffer. Assumes nothing.
 use denote.Ref.{now}
-use Rattle.colour.proofs.OneAnswer.{OneAnswer, OneContent, both}
+use Rattle.numbers.proofs.OneAnswer.{OneAnswer, OneContent, both}
 use Rattle.dots.proofs.dot.get_dot.Reads as get-dot
 use Rattle.dots.proofs.dot.load_dot.Reads as load-dot
 use Rattle.dots.proofs.dot.set_dot.Reads as set-dot

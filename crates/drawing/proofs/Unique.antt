@@ -1,6 +1,6 @@
 -- Each entry's contract leaves one answer and one content of the buffer that it may write to. Assumes nothing.
 use denote.Ref.{now}
-use Rattle.colour.proofs.OneAnswer.{OneAnswer, OneContent, both}
+use Rattle.numbers.proofs.OneAnswer.{OneAnswer, OneContent, both}
 use Rattle.drawing.proofs.put.put_pixels.Reads as put-pixels
 use Rattle.drawing.proofs.put.put_render_img.Reads as put-render-img
 use Rattle.drawing.proofs.rect.draw_rect.Reads as draw-rect

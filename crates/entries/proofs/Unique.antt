@@ -1,6 +1,6 @@
 -- Each public function's contract leaves one answer or one content of the buffer. Assumes nothing.
 use denote.Ref.{now}
-use Rattle.colour.proofs.OneAnswer.{OneAnswer, OneContent, both}
+use Rattle.numbers.proofs.OneAnswer.{OneAnswer, OneContent, both}
 use Rattle.entries.proofs.Entry.rectangle.Reads as rectangle
 use Rattle.entries.proofs.Entry.image.Reads as image
 use Rattle.entries.proofs.rules.good_entry.Reads as good-entry

@@ -5,7 +5,7 @@ mod rules;
 
 ghost use mathlib.Core.Path.{_≡_};
 ghost use mathlib.Core.Bool.{true};
-ghost use Prim.Native.Nat.{_+_, _*_, _≤_, min, max};
+ghost use Prim.Native.Nat.{_+_, _*_, _≤_};
 ghost use lib.ListN.{length};
 ghost use Rattle.numbers.specs.Numbers.{limit};
 ghost use Rattle.images.specs.Stretching.{factor};
@@ -15,6 +15,9 @@ use areas::draw_area;
 use colour::RGBA;
 use image::image_rows;
 use images::factor_of;
+use numbers::larger;
+use numbers::smaller;
+use numbers::smaller_side;
 pub use rules::good_entry;
 
 // Kind and mode are the job's numbers. A rectangle has zeros from the stretch on; the bit rows of an
@@ -48,7 +51,7 @@ impl Entry {
         requires { ⌜ x ≤ width ⌝ }
         ensures { λ r. ⌜ r ≡ rectangleEntry width x y w h color mode ⌝ }
     {
-        let cut = smaller(w as usize, (width - x) as usize) as u32;
+        let cut = smaller_side(w, width - x);
         Entry {
             kind: Entry::RECTANGLE,
             mode,
@@ -82,7 +85,7 @@ impl Entry {
     {
         let fx = factor_of(sx);
         let fy = factor_of(sy);
-        let cut = smaller((w * fx) as usize, (width - x) as usize) as u32;
+        let cut = smaller_side(w * fx, width - x);
         Entry {
             kind: Entry::IMAGE,
             mode,
@@ -98,24 +101,6 @@ impl Entry {
             start,
         }
     }
-}
-
-fn larger(a: usize, b: usize) -> usize
-    ensures { λ r. ⌜ r ≡ max a b ⌝ }
-{
-    if a < b {
-        return b;
-    }
-    a
-}
-
-fn smaller(a: usize, b: usize) -> usize
-    ensures { λ r. ⌜ r ≡ min a b ⌝ }
-{
-    if a < b {
-        return a;
-    }
-    b
 }
 
 // The entry's own rows from `own` on, at row `row` of a buffer.

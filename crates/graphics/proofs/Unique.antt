@@ -1,6 +1,6 @@
 -- Each public function's contract leaves one answer and one content of the output. Assumes nothing.
 use denote.Ref.{now}
-use Rattle.colour.proofs.OneAnswer.{OneAnswer, OneContent, both}
+use Rattle.numbers.proofs.OneAnswer.{OneAnswer, OneContent, both}
 use Rattle.graphics.proofs.image_from_raster_bytes_single_color.Reads as raster
 use Rattle.graphics.proofs.image_from_column_bytes_single_color.Reads as column
 use Rattle.graphics.proofs.image_from_raster_bytes_multi_color.Reads as layers

@@ -1,6 +1,6 @@
 -- Each public function's contract leaves one answer and one content of the output. Assumes nothing.
 use denote.Ref.{now}
-use Rattle.colour.proofs.OneAnswer.{OneAnswer, OneContent, both}
+use Rattle.numbers.proofs.OneAnswer.{OneAnswer, OneContent, both}
 use Rattle.images.proofs.formats.raster_of.Reads as raster-of
 use Rattle.images.proofs.scale.Source.in_color.Reads as in-color
 use Rattle.images.proofs.scale.decode_single_color.Reads as decode-single-color

@@ -1,5 +1,5 @@
 -- Each public function's contract leaves one answer. Assumes nothing.
-use Rattle.colour.proofs.OneAnswer.{OneAnswer, both}
+use Rattle.numbers.proofs.OneAnswer.{OneAnswer, both}
 use Rattle.job.proofs.bytes.read_u16.Reads as read-u16
 use Rattle.job.proofs.bytes.read_u32.Reads as read-u32
 use Rattle.job.proofs.bytes.read_rgba.Reads as read-rgba

@@ -1,6 +1,6 @@
 -- Each public function's contract leaves one answer and one content of the lent buffer. Assumes nothing.
 use denote.Ref.{now}
-use Rattle.colour.proofs.OneAnswer.{OneAnswer, OneContent, both}
+use Rattle.numbers.proofs.OneAnswer.{OneAnswer, OneContent, both}
 use Rattle.listing.proofs.list_job.Reads as list-job
 use Rattle.listing.proofs.first_line.Reads as first-line
 use Rattle.listing.proofs.row_line.Reads as row-line

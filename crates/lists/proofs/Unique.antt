@@ -11,7 +11,7 @@ use contract.Monad.{Fun, fact}
 use denote.Ref.{now}
 use denote.Triple.Entry.{Args, Res}
 use denote.Triple.Clauses.{AtExit}
-use Rattle.colour.proofs.OneAnswer.{OneAnswer, OneContent, both}
+use Rattle.numbers.proofs.OneAnswer.{OneAnswer, OneContent, both}
 use Rattle.rows.specs.Rows.{listGiven, listWritten}
 use Rattle.lists.proofs.row_of_entries as f
 

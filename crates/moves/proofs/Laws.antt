@@ -13,7 +13,7 @@ use Rattle.dots.specs.Dots.{dotAt, chan, change, within}
 use Rattle.dots.proofs.Laws.{length-change, change-picked, change-kept, change-same, change-idle, run-none, Place, before, inside, past, place, within-yes, within-low, within-high, within-true}
 use Rattle.dots.proofs.Blocks.{in-row}
 use Rattle.moves.specs.declared.turned.Turn.{Turn}
-use Rattle.moves.specs.Moves.{loweredOn, widenedAt, widenedOn, copiedTo, rgbTo, columnTo, rowTo, turnedWide, turnedTall, turnedOn}
+use Rattle.moves.specs.Moves.{loweredOn, paddedAt, paddedOn, copiedTo, rgbTo, columnTo, rowTo, turnedWide, turnedTall, turnedOn}
 use Rattle.moves.proofs.Bytes.{length-over, over-picked, over-kept}
 use Rattle.moves.proofs.Rects.{factor}
 use Rattle.moves.proofs.Turns.{sides, column-out, row-out, column-back, row-back, in-picture, dot-room, dot-at}
@@ -59,53 +59,53 @@ lowered-none by paper l = change-same _ _ _ _ l (λ i c. at i (place 0 by i))
 -- ---- widened
 
 module _ (w h wide left : ℕ) (paper : RGBA) (l : List ℕ) where
-  pub length-widened : length (widenedOn w h wide left paper l) ≡ length l
-  unfolding widenedOn
+  pub length-widened : length (paddedOn w h wide left paper l) ≡ length l
+  unfolding paddedOn
   length-widened = length-change _ _ l
 
   -- the dot at column c, row r: one of the paper before the row, one that was moved, one of the paper after it
-  pub widened-at : (c r : ℕ) → c < wide → r < h → wide * h * 4 ≤ length l → dotAt (widenedOn w h wide left paper l) (r * wide + c) ≡ widenedAt w left paper l c r
-  unfolding widenedOn
-  widened-at c r a b room =
+  pub padded-at : (c r : ℕ) → c < wide → r < h → wide * h * 4 ≤ length l → dotAt (paddedOn w h wide left paper l) (r * wide + c) ≡ paddedAt w left paper l c r
+  unfolding paddedOn
+  padded-at c r a b room =
       let i = r * wide + c in
       let p = in-picture wide h c r a b in
       let e = in-row r wide i (omega arith) (omega arith) in
       let m : i - r * wide ≡ c = omega arith in
       change-picked _ _ l i (within-yes 0 (wide * h) i (omega arith) (omega (arith, mul-comm wide h))) (omega (arith, mul-comm wide h)) ∙ rw (e .0, e .1, m)
 
-  pub widened-before : (c r : ℕ) → c < left → widenedAt w left paper l c r ≡ paper
-  unfolding widenedAt
-  widened-before c r a = rw (within-low left (left + w) c a)
+  pub padded-before : (c r : ℕ) → c < left → paddedAt w left paper l c r ≡ paper
+  unfolding paddedAt
+  padded-before c r a = rw (within-low left (left + w) c a)
 
-  pub widened-dot : (x r : ℕ) → x < w → widenedAt w left paper l (left + x) r ≡ dotAt l (r * w + x)
-  unfolding widenedAt
-  widened-dot x r a =
+  pub padded-dot : (x r : ℕ) → x < w → paddedAt w left paper l (left + x) r ≡ dotAt l (r * w + x)
+  unfolding paddedAt
+  padded-dot x r a =
       let e : left + x - left ≡ x = omega arith in
       rw (within-yes left (left + w) (left + x) (omega arith) (omega arith), e)
 
-  pub widened-after : (c r : ℕ) → left + w ≤ c → widenedAt w left paper l c r ≡ paper
-  unfolding widenedAt
-  widened-after c r a = rw (within-high left (left + w) c a)
+  pub padded-after : (c r : ℕ) → left + w ≤ c → paddedAt w left paper l c r ≡ paper
+  unfolding paddedAt
+  padded-after c r a = rw (within-high left (left + w) c a)
 
-  pub widened-past : (i : ℕ) → wide * h ≤ i → dotAt (widenedOn w h wide left paper l) i ≡ dotAt l i
-  unfolding widenedOn
-  widened-past i a = change-kept _ _ l i (within-high 0 (wide * h) i a)
+  pub padded-past : (i : ℕ) → wide * h ≤ i → dotAt (paddedOn w h wide left paper l) i ≡ dotAt l i
+  unfolding paddedOn
+  padded-past i a = change-kept _ _ l i (within-high 0 (wide * h) i a)
 
 -- no rows
-pub widened-none : (w wide left : ℕ) (paper : RGBA) (l : List ℕ) → l ≡ widenedOn w 0 wide left paper l
-unfolding widenedOn
-widened-none w wide left paper l = rw mul-zero (run-none 0 _ l)
+pub padded-none : (w wide left : ℕ) (paper : RGBA) (l : List ℕ) → l ≡ paddedOn w 0 wide left paper l
+unfolding paddedOn
+padded-none w wide left paper l = rw mul-zero (run-none 0 _ l)
 
 -- no wider than it was
-pub widened-same : (w h : ℕ) (paper : RGBA) (l : List ℕ) → l ≡ widenedOn w h w 0 paper l
-unfolding widenedOn
-widened-same w h paper l =
+pub padded-same : (w h : ℕ) (paper : RGBA) (l : List ℕ) → l ≡ paddedOn w h w 0 paper l
+unfolding paddedOn
+padded-same w h paper l =
     change-idle _ _ l
     (λ i t.
     let b = within-true 0 (w * h) i t in
     let c = mod-lt i {m = w} (factor h w i (omega (arith, mul-comm w h))) in
     let e : i ≡ i / w * w + i % w = sym (div-add-mod' i w) in
-    ap (dotAt l) e ∙ sym (widened-dot w h w 0 paper l (i % w) (i / w) c) ∙ ap (λ (n : ℕ). widenedAt w 0 paper l n (i / w)) (omega arith))
+    ap (dotAt l) e ∙ sym (padded-dot w h w 0 paper l (i % w) (i / w) c) ∙ ap (λ (n : ℕ). paddedAt w 0 paper l n (i / w)) (omega arith))
 
 -- ---- turned
 

@@ -10,7 +10,7 @@ use Rattle.colour.specs.declared.RGBA.{RGBA}
 use Rattle.dots.specs.Dots.{dotAt, change, within}
 use Rattle.dots.proofs.Laws.{length-change, change-picked, change-kept, change-past, change-ext, run-none, run-back, Place, before, inside, past, place, within-yes, within-low, within-high}
 use Rattle.dots.proofs.Blocks.{in-row}
-use Rattle.moves.specs.Moves.{widenedAt, widenedOn}
+use Rattle.moves.specs.Moves.{paddedAt, paddedOn}
 
 -- r narrow rows end before r wide ones do
 pub narrower : (w wide left r : ℕ) → left + w ≤ wide → r * w ≤ r * wide
@@ -38,13 +38,13 @@ module _ (w wide left r : ℕ) (paper : RGBA) (l : List ℕ) where
   done = change (within end (end + (start + wide - end))) (λ _ _. paper) papered
 
   abbrev rowDot : ℕ → RGBA → RGBA
-  rowDot i _ = widenedAt w left paper l (i - start) r
+  rowDot i _ = paddedAt w left paper l (i - start) r
 
   same-length : length papered ≡ length l
   same-length = length-change _ _ moved ∙ length-change _ _ l
 
   row-done : left + w ≤ wide → done ≡ change (within start (start + wide)) rowDot l
-  unfolding widenedAt
+  unfolding paddedAt
   row-done fits =
       change-ext _ rowDot l done (length-change _ _ papered ∙ same-length)
       (λ i room. at i room (place start (start + wide) i) (place (start + left) end i))
@@ -78,10 +78,10 @@ module _ (w wide left r : ℕ) (paper : RGBA) (l : List ℕ) where
   row-three fits ed ea eb em = em ∙ rw (eb, ea, ed) (row-done fits)
 
 -- a widened dot is known by the row that it is read from
-widened-from : (w left r c : ℕ) (paper : RGBA) (b l : List ℕ) → ((j : ℕ) → j < r * w + w → dotAt b j ≡ dotAt l j)
-    → widenedAt w left paper b c r ≡ widenedAt w left paper l c r
-unfolding widenedAt
-widened-from w left r c paper b l h = by (place left (left + w) c)
+padded-from : (w left r c : ℕ) (paper : RGBA) (b l : List ℕ) → ((j : ℕ) → j < r * w + w → dotAt b j ≡ dotAt l j)
+    → paddedAt w left paper b c r ≡ paddedAt w left paper l c r
+unfolding paddedAt
+padded-from w left r c paper b l h = by (place left (left + w) c)
   where
     by : Place left (left + w) c
         → (if within left (left + w) c then dotAt b (r * w + (c - left)) else paper) ≡ (if within left (left + w) c then dotAt l (r * w + (c - left)) else paper)
@@ -93,7 +93,7 @@ widened-from w left r c paper b l h = by (place left (left + w) c)
 
 module _ (w h wide left : ℕ) (paper : RGBA) (l : List ℕ) where
   abbrev dot : ℕ → RGBA → RGBA
-  dot i _ = widenedAt w left paper l (i % wide) (i / wide)
+  dot i _ = paddedAt w left paper l (i % wide) (i / wide)
 
   pub record Back (r : ℕ) (b : List ℕ) : Type 0 where
     pub upto : r ≤ h
@@ -108,7 +108,7 @@ module _ (w h wide left : ℕ) (paper : RGBA) (l : List ℕ) where
       omega (arith, o .same, add-mul (r - 1) 1 wide, mul-le-mul-right {m = r - 1 + 1} {n = h} wide (omega (arith, o .upto)), mul-comm wide h)
 
   pub back-next : {r : ℕ} {b m : List ℕ} → Back r b → 0 < r → left + w ≤ wide
-      → m ≡ change (within ((r - 1) * wide) ((r - 1) * wide + wide)) (λ i _. widenedAt w left paper b (i - (r - 1) * wide) (r - 1)) b → Back (r - 1) m
+      → m ≡ change (within ((r - 1) * wide) ((r - 1) * wide + wide)) (λ i _. paddedAt w left paper b (i - (r - 1) * wide) (r - 1)) b → Back (r - 1) m
   back-next {r} {b} o u fits em =
       let k = r - 1 in
       let e : k + 1 ≡ r = omega arith in
@@ -123,11 +123,11 @@ module _ (w h wide left : ℕ) (paper : RGBA) (l : List ℕ) where
             (λ i a z d.
             let p = in-row k wide i a z in
             rw (p .0, p .1)
-            (widened-from w left k (i - k * wide) paper b l
+            (padded-from w left k (i - k * wide) paper b l
             (λ j y. ap (λ (x : List ℕ). dotAt x j) (o .sofar) ∙ change-kept _ dot l j (within-low (r * wide) (h * wide) j (omega arith)))))
             (rw next (o .sofar)) em;
       }
 
-  pub back-end : {r : ℕ} {b : List ℕ} → Back r b → r ≤ 0 → b ≡ widenedOn w h wide left paper l
-  unfolding widenedOn
+  pub back-end : {r : ℕ} {b : List ℕ} → Back r b → r ≤ 0 → b ≡ paddedOn w h wide left paper l
+  unfolding paddedOn
   back-end {r} o u = let e : r ≡ 0 = omega arith in o .sofar ∙ rw (e, zero-mul, mul-comm h wide)

@@ -1,6 +1,6 @@
 -- Each public function's contract leaves one content of the written buffer. Assumes nothing.
 use denote.Ref.{now}
-use Rattle.colour.proofs.OneAnswer.{OneContent, both}
+use Rattle.numbers.proofs.OneAnswer.{OneContent, both}
 use Rattle.moves.proofs.run.move_run.Reads as move-run
 use Rattle.moves.proofs.lower.move_down.Reads as move-down
 use Rattle.moves.proofs.widening.widen.Reads as widen

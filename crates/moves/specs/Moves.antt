@@ -14,12 +14,12 @@ unfoldable pub loweredOn : ℕ → ℕ → RGBA → List ℕ → List ℕ
 loweredOn n by paper l = change (within 0 (by + n)) (λ i _. if ltb i by then paper else dotAt l (i - by)) l
 
 -- the dot at column c, row r of a picture that was w dots wide and has `left` dots of paper before each row, and paper after it
-unfoldable pub widenedAt : ℕ → ℕ → RGBA → List ℕ → ℕ → ℕ → RGBA
-widenedAt w left paper l c r = if within left (left + w) c then dotAt l (r * w + (c - left)) else paper
+unfoldable pub paddedAt : ℕ → ℕ → RGBA → List ℕ → ℕ → ℕ → RGBA
+paddedAt w left paper l c r = if within left (left + w) c then dotAt l (r * w + (c - left)) else paper
 
 -- a w by h picture made `wide` dots wide
-unfoldable pub widenedOn : ℕ → ℕ → ℕ → ℕ → RGBA → List ℕ → List ℕ
-widenedOn w h wide left paper l = change (within 0 (wide * h)) (λ i _. widenedAt w left paper l (i % wide) (i / wide)) l
+unfoldable pub paddedOn : ℕ → ℕ → ℕ → ℕ → RGBA → List ℕ → List ℕ
+paddedOn w h wide left paper l = change (within 0 (wide * h)) (λ i _. paddedAt w left paper l (i % wide) (i / wide)) l
 
 -- the first n dots of src written to out
 unfoldable pub copiedTo : ℕ → List ℕ → List ℕ → List ℕ

@@ -3,7 +3,7 @@ ghost use mathlib.Core.Path.{_≡_};
 ghost use Prim.Native.Nat.{_+_, _-_, _*_, _≤_};
 ghost use lib.ListN.{length};
 ghost use Rattle.dots.specs.Dots.{change, within};
-ghost use Rattle.moves.specs.Moves.{widenedAt, widenedOn};
+ghost use Rattle.moves.specs.Moves.{paddedAt, paddedOn};
 use super::run::move_run;
 use colour::RGBA;
 use dots::fill_run;
@@ -22,7 +22,7 @@ fn apart(from: usize, to: usize) -> usize
 // Row r of the wide picture. Its dots are moved before paper is laid, which may cover where they were.
 fn widen_row(buf: &mut [u8], w: usize, wide: usize, left: usize, paper: RGBA, r: usize)
     requires { ⌜ (left + w ≤ wide) × ((r * wide + wide) * 4 ≤ length (now buf)) ⌝ }
-    ensures { λ _. ⌜ now (buf .exit) ≡ change (within (r * wide) (r * wide + wide)) (λ i _. widenedAt w left paper (now (buf .entry)) (i - r * wide) r) (now (buf .entry)) ⌝ }
+    ensures { λ _. ⌜ now (buf .exit) ≡ change (within (r * wide) (r * wide + wide)) (λ i _. paddedAt w left paper (now (buf .entry)) (i - r * wide) r) (now (buf .entry)) ⌝ }
 {
     let from = r * w;
     let at = r * wide;
@@ -37,7 +37,7 @@ fn widen_row(buf: &mut [u8], w: usize, wide: usize, left: usize, paper: RGBA, r:
 // From the last row to the first, so that no row is written before it is moved.
 pub fn widen(buf: &mut [u8], w: usize, h: usize, wide: usize, left: usize, paper: RGBA)
     requires { ⌜ (left + w ≤ wide) × (wide * h * 4 ≤ length (now buf)) ⌝ }
-    ensures { λ _. ⌜ now (buf .exit) ≡ widenedOn w h wide left paper (now (buf .entry)) ⌝ }
+    ensures { λ _. ⌜ now (buf .exit) ≡ paddedOn w h wide left paper (now (buf .entry)) ⌝ }
 {
     let mut r = h;
     while r > 0 {

@@ -1,1 +1,3 @@
 pub mod Sides
+pub mod OneAnswer
+mod Unique

@@ -1,4 +1,12 @@
-// The numbers that an entry can give, and the largest side: document 01's table.
+// The numbers that an entry can give, and the largest side: document 01's table. Beside them the
+// smaller and the larger of two.
+mod order;
+
+pub use order::larger;
+pub use order::larger_side;
+pub use order::smaller;
+pub use order::smaller_side;
+
 pub const DONE: u8 = 0;
 
 pub const NO_ROOM: u8 = 1;

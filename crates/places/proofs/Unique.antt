@@ -1,7 +1,7 @@
 -- The contract of each step that drawing calls leaves one answer. Assumes nothing.
 use mathlib.Core.Path.{_≡_}
 use Prim.Native.Nat.{ℕ}
-use Rattle.colour.proofs.OneAnswer.{OneAnswer, both}
+use Rattle.numbers.proofs.OneAnswer.{OneAnswer, both}
 use Rattle.places.specs.declared.sizes.Crop.{Crop}
 use Rattle.places.proofs.rules.place_refusal.Reads as place-refusal
 use Rattle.places.proofs.rules.rect_refusal.Reads as rect-refusal

@@ -1,31 +1,15 @@
 // What cropping leaves, and the height that drawing comes to.
 ghost use mathlib.Core.Path.{_≡_};
-ghost use Prim.Native.Nat.{_-_, min, max};
+ghost use Prim.Native.Nat.{_-_};
 ghost use Rattle.places.specs.Places.{cropped, cropWide, cropTall, tallAfter, flipTall, flips, imageTall};
+use numbers::larger;
+use numbers::smaller_side;
 use thermal_image::ThermalImage;
 
 // What is left of an image that is cropped, or all of one that is not.
 pub struct Crop {
     pub w: u32,
     pub h: u32,
-}
-
-fn smaller(a: u32, b: u32) -> u32
-    ensures { λ r. ⌜ r ≡ min a b ⌝ }
-{
-    if a < b {
-        return a;
-    }
-    b
-}
-
-fn larger(a: usize, b: usize) -> usize
-    ensures { λ r. ⌜ r ≡ max a b ⌝ }
-{
-    if a < b {
-        return b;
-    }
-    a
 }
 
 fn left_of(end: u32, at: u32) -> u32
@@ -55,11 +39,11 @@ pub fn crop_pixels(t: ThermalImage, x: u32, y: u32, w: u32, h: u32) -> Crop
     if !cropped(t, x, y, w) {
         return Crop { w, h };
     }
-    let wide = smaller(w, left_of(t.width, x));
+    let wide = smaller_side(w, left_of(t.width, x));
     if t.auto_grow {
         return Crop { w: wide, h };
     }
-    let tall = smaller(h, left_of(t.height, y));
+    let tall = smaller_side(h, left_of(t.height, y));
     Crop { w: wide, h: tall }
 }
 

@@ -23,7 +23,7 @@ use Rattle.entries.specs.declared.Entry.{Entry}
 use Rattle.plan.specs.declared.Plan.{Plan}
 use Rattle.entries.specs.Entries.{rectangleEntry, imageEntry}
 use Rattle.plan.specs.Plan.{margins, entriesOf, isFlip, hasFlip, planWith, planOf}
-use Rattle.plan.specs.Steps.{planned, stepped, Ready}
+use Rattle.plan.specs.Steps.{planned, stepped, RoomForOne}
 use Rattle.plan.proofs.Listed.{lower-none, entries-more, entries-margin, entries-few, Low, low-none, low-get, low-push, low-down, push-with, drop-with, shift-with}
 
 -- ---- a command that is kept, on the record
@@ -88,7 +88,7 @@ module _ (s : List ℕ) (p : Plan) (k at : ℕ) (g : Going s p k at) where
     pub going-few : k < 64
     going-few = looked-few s k at (g .H) (g .ks) (g .ds) (g .looked) e refl
 
-    pub going-ready : Ready p
+    pub going-ready : RoomForOne p
     unfolding padded
     going-ready =
         let h = going-few in

@@ -1,5 +1,5 @@
 -- The public function's contract leaves one answer. Assumes nothing.
-use Rattle.colour.proofs.OneAnswer.{OneAnswer, both}
+use Rattle.numbers.proofs.OneAnswer.{OneAnswer, both}
 use Rattle.plan.proofs.translate.Reads as translate
 
 translate-one : OneAnswer translate.Post

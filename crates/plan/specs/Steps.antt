@@ -66,7 +66,7 @@ pub record RoomFor (p : Plan) (m : ℕ) : Type 0 where
   pub tall : p .height + m ≤ limit
   pub low : (i : ℕ) → i < p .count → getD (p .entries) i noEntry .y ≤ p .height
 
-pub record Ready (p : Plan) : Type 0 where
+pub record RoomForOne (p : Plan) : Type 0 where
   pub entry : p .count < mostCommands
   pub drop : p .«dropped_count» < mostCommands
   pub tall : p .height ≤ limit

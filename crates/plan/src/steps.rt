@@ -1,22 +1,14 @@
 // What is made of a plan at each command.
 ghost use mathlib.Core.Path.{_≡_};
-ghost use Prim.Native.Nat.{_+_, _<_, _≤_, max};
+ghost use Prim.Native.Nat.{_+_, _<_, _≤_};
 ghost use Rattle.numbers.specs.Numbers.{limit};
-ghost use Rattle.plan.specs.Steps.{pushed, shifted, leftOut, stepped, RoomFor, Ready};
+ghost use Rattle.plan.specs.Steps.{pushed, shifted, leftOut, stepped, RoomFor, RoomForOne};
 use super::Plan;
 use entries::Entry;
 use job::Command;
 use job::Dropped;
 use numbers::DONE;
-
-fn larger(a: u32, b: u32) -> u32
-    ensures { λ r. ⌜ r ≡ max a b ⌝ }
-{
-    if a < b {
-        return b;
-    }
-    a
-}
+use numbers::larger_side;
 
 // One entry more, and a plan as high as it needs.
 fn push(plan: Plan, e: Entry) -> Plan
@@ -27,7 +19,7 @@ fn push(plan: Plan, e: Entry) -> Plan
     let n = p.count;
     p.entries[n] = e;
     p.count = n + 1;
-    p.height = larger(p.height, e.y + e.h);
+    p.height = larger_side(p.height, e.y + e.h);
     p
 }
 
@@ -61,7 +53,7 @@ fn shift(plan: Plan, m: u32) -> Plan
 }
 
 pub(crate) fn step(p: Plan, k: u32, c: Command) -> Plan
-    requires { ⌜ Ready p ⌝ }
+    requires { ⌜ RoomForOne p ⌝ }
     ensures { λ r. ⌜ r ≡ stepped p k c ⌝ }
 {
     let why = job::command_reason(p.width, p.height, c);

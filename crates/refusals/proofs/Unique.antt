@@ -1,8 +1,7 @@
 -- The contract of each step leaves one answer. Assumes nothing.
-use Rattle.colour.proofs.OneAnswer.{OneAnswer, both}
+use Rattle.numbers.proofs.OneAnswer.{OneAnswer, both}
 use Rattle.refusals.proofs.first.Reads as first
 use Rattle.refusals.proofs.rows_of.Reads as rows-of
-use Rattle.refusals.proofs.larger.Reads as larger
 use Rattle.refusals.proofs.tall_refusal.Reads as tall-refusal
 use Rattle.refusals.proofs.wide_refusal.Reads as wide-refusal
 use Rattle.refusals.proofs.room_refusal.Reads as room-refusal
@@ -23,9 +22,6 @@ first-one k a x y e f p q = both p q
 
 rows-of-one : OneAnswer rows-of.Post
 rows-of-one k a x y e f p q = both p q
-
-larger-one : OneAnswer larger.Post
-larger-one k a x y e f p q = both p q
 
 tall-refusal-one : OneAnswer tall-refusal.Post
 tall-refusal-one k a x y e f p q = both p q

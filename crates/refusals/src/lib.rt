@@ -4,7 +4,6 @@
 mod drawn;
 
 ghost use mathlib.Core.Path.{_≡_};
-ghost use Prim.Native.Nat.{max};
 ghost use Rattle.refusals.specs.Refusals.{first, rowsOf, unsound, tallRefusal, wideRefusal, roomRefusal, rgbRoomRefusal, growRefusal, marginRefusal, widenRefusal, widthRefusal, outRefusal, rgbRefusal};
 pub use drawn::across_refusal;
 pub use drawn::empty_refusal;
@@ -16,6 +15,7 @@ use numbers::LIMIT;
 use numbers::NO_ROOM;
 use numbers::TOO_LARGE;
 use numbers::TOO_TALL;
+use numbers::larger_side;
 
 pub fn first(number: u8, next: u8) -> u8
     ensures { λ r. ⌜ r ≡ first number next ⌝ }
@@ -33,15 +33,6 @@ pub fn rows_of(w: u32, h: u32) -> u32
         return 0;
     }
     h
-}
-
-pub fn larger(a: u32, b: u32) -> u32
-    ensures { λ r. ⌜ r ≡ max a b ⌝ }
-{
-    if a < b {
-        return b;
-    }
-    a
 }
 
 pub fn tall_refusal(h: usize) -> u8
@@ -103,7 +94,7 @@ pub fn grow_refusal(w: u32, h: u32, height: u32, n: usize) -> u8
     ensures { λ r. ⌜ r ≡ growRefusal w h height n ⌝ }
 {
     let number = first(unsound(w, h, n), tall_refusal(height as usize));
-    first(number, room_refusal(w, larger(h, height), n))
+    first(number, room_refusal(w, larger_side(h, height), n))
 }
 
 // The sum of two heights fits a u32 once it is within the limit.

@@ -1,6 +1,6 @@
 -- Each public function's contract leaves one answer, and those of `row` and `rows` one content of the buffer. Assumes nothing.
 use denote.Ref.{now}
-use Rattle.colour.proofs.OneAnswer.{OneAnswer, OneContent, both}
+use Rattle.numbers.proofs.OneAnswer.{OneAnswer, OneContent, both}
 use Rattle.rows.proofs.good_sizes.Reads as good-sizes
 use Rattle.rows.proofs.refusal_of.Reads as refusal-of
 use Rattle.rows.proofs.ink_of.Reads as ink-of

@@ -2,7 +2,7 @@
 // its ink, or some rows at once.
 ghost use mathlib.Core.Path.{_≡_};
 ghost use mathlib.Core.Bool.{true};
-ghost use Prim.Native.Nat.{_+_, _*_, _≤_, min};
+ghost use Prim.Native.Nat.{_+_, _*_, _≤_};
 ghost use lib.ListN.{length};
 ghost use Rattle.numbers.specs.Numbers.{limit, done};
 ghost use Rattle.colour.specs.Choice.{if_then_else_};
@@ -19,6 +19,7 @@ use numbers::DONE;
 use numbers::LIMIT;
 use numbers::NO_ROOM;
 use numbers::NO_ROW;
+use numbers::smaller_side;
 use plan::Plan;
 
 // What a row answers: the number, and how many of its dots have ink.
@@ -141,15 +142,6 @@ fn draw_rows(plan: Plan, first: u32, count: u32, data: &[u8], buf: &mut [u8], to
     }
 }
 
-fn least(a: u32, b: u32) -> u32
-    ensures { λ r. ⌜ r ≡ min a b ⌝ }
-{
-    if a < b {
-        return a;
-    }
-    b
-}
-
 // So many rows are drawn before the next, so that a row is still near when it is drawn on.
 const BAND: u32 = 64;
 
@@ -159,7 +151,7 @@ fn draw_bands(plan: Plan, first: u32, count: u32, data: &[u8], buf: &mut [u8])
 {
     let mut j = 0;
     while j < count {
-        let n = least(BAND, count - j);
+        let n = smaller_side(BAND, count - j);
         draw_rows(plan, first + j, n, data, buf, j);
         j += n;
     }

@@ -1,6 +1,6 @@
 -- The public function's contract leaves one answer and one content of the buffer. Assumes nothing.
 use denote.Ref.{now}
-use Rattle.colour.proofs.OneAnswer.{OneAnswer, OneContent, both}
+use Rattle.numbers.proofs.OneAnswer.{OneAnswer, OneContent, both}
 use Rattle.runs.proofs.run.Reads as run
 
 run-one : OneAnswer run.Post

@@ -1,6 +1,6 @@
 -- Each exported function's contract leaves one answer and one content of what is lent. Assumes nothing.
 use denote.Ref.{now}
-use Rattle.colour.proofs.OneAnswer.{OneAnswer, OneContent, both}
+use Rattle.numbers.proofs.OneAnswer.{OneAnswer, OneContent, both}
 use Rattle.thermal.proofs.colours.thermal_with_alpha.Reads as with-alpha
 use Rattle.thermal.proofs.colours.thermal_blend_foreground.Reads as blend-foreground
 use Rattle.thermal.proofs.colours.thermal_blend_foreground_with_alpha.Reads as blend-foreground-with-alpha

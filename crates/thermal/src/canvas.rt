@@ -4,7 +4,7 @@ ghost use mathlib.Core.Path.{_≡_};
 ghost use lib.ListN.{length};
 ghost use Rattle.moves.specs.declared.turned.Turn.{Turn};
 ghost use Rattle.refusals.specs.Refusals.{rowsOf};
-ghost use Rattle.thermal_image.specs.Canvas.{madeNew, grown, grownOn, lowered, lowerOn, widened, widenOn, setWidth, emptied, copied, copyOn, rgb, rgbOn, turned, turnOn};
+ghost use Rattle.thermal_image.specs.Canvas.{madeNew, grown, grownOn, margined, marginedOn, widened, widenedOn, setWidth, emptied, copied, copiedOn, rgb, rgbOn, rotated, rotatedOn};
 use thermal_image::Answer;
 use thermal_image::Copied;
 use thermal_image::Rgb;
@@ -38,8 +38,8 @@ pub extern "C" fn thermal_expand_to_height(
 
 #[no_mangle]
 pub extern "C" fn thermal_add_top_margin(image: ThermalImage, height: u32, buf: &mut [u8]) -> Answer
-    ensures { λ r. ⌜ r ≡ lowered image height (length (now (buf .entry))) ⌝ }
-    ensures { λ _. ⌜ now (buf .exit) ≡ lowerOn image height (now (buf .entry)) ⌝ }
+    ensures { λ r. ⌜ r ≡ margined image height (length (now (buf .entry))) ⌝ }
+    ensures { λ _. ⌜ now (buf .exit) ≡ marginedOn image height (now (buf .entry)) ⌝ }
 {
     image.add_top_margin(height, buf)
 }
@@ -51,7 +51,7 @@ pub extern "C" fn thermal_expand_to_width(
     buf: &mut [u8],
 ) -> Answer
     ensures { λ r. ⌜ r ≡ widened image «new_width» (length (now (buf .entry))) ⌝ }
-    ensures { λ _. ⌜ now (buf .exit) ≡ widenOn image «new_width» (now (buf .entry)) ⌝ }
+    ensures { λ _. ⌜ now (buf .exit) ≡ widenedOn image «new_width» (now (buf .entry)) ⌝ }
 {
     image.expand_to_width(new_width, buf)
 }
@@ -80,7 +80,7 @@ pub extern "C" fn thermal_reset(image: ThermalImage, buf: &[u8]) -> Answer
 #[no_mangle]
 pub extern "C" fn thermal_copy(image: ThermalImage, buf: &[u8], out: &mut [u8]) -> Copied
     ensures { λ r. ⌜ r ≡ copied image (length (now (buf .entry))) (length (now (out .entry))) ⌝ }
-    ensures { λ _. ⌜ now (out .exit) ≡ copyOn image (now (buf .entry)) (now (out .entry)) ⌝ }
+    ensures { λ _. ⌜ now (out .exit) ≡ copiedOn image (now (buf .entry)) (now (out .entry)) ⌝ }
 {
     image.copy(buf, out)
 }
@@ -95,24 +95,24 @@ pub extern "C" fn thermal_consume_rgb_u8(image: ThermalImage, buf: &[u8], out: &
 
 #[no_mangle]
 pub extern "C" fn thermal_rotate_90(image: ThermalImage, buf: &[u8], out: &mut [u8]) -> Answer
-    ensures { λ r. ⌜ r ≡ turned Turn.Quarter image (length (now (buf .entry))) (length (now (out .entry))) ⌝ }
-    ensures { λ _. ⌜ now (out .exit) ≡ turnOn Turn.Quarter image (now (buf .entry)) (now (out .entry)) ⌝ }
+    ensures { λ r. ⌜ r ≡ rotated Turn.Quarter image (length (now (buf .entry))) (length (now (out .entry))) ⌝ }
+    ensures { λ _. ⌜ now (out .exit) ≡ rotatedOn Turn.Quarter image (now (buf .entry)) (now (out .entry)) ⌝ }
 {
     image.rotate_90(buf, out)
 }
 
 #[no_mangle]
 pub extern "C" fn thermal_rotate_180(image: ThermalImage, buf: &[u8], out: &mut [u8]) -> Answer
-    ensures { λ r. ⌜ r ≡ turned Turn.Half image (length (now (buf .entry))) (length (now (out .entry))) ⌝ }
-    ensures { λ _. ⌜ now (out .exit) ≡ turnOn Turn.Half image (now (buf .entry)) (now (out .entry)) ⌝ }
+    ensures { λ r. ⌜ r ≡ rotated Turn.Half image (length (now (buf .entry))) (length (now (out .entry))) ⌝ }
+    ensures { λ _. ⌜ now (out .exit) ≡ rotatedOn Turn.Half image (now (buf .entry)) (now (out .entry)) ⌝ }
 {
     image.rotate_180(buf, out)
 }
 
 #[no_mangle]
 pub extern "C" fn thermal_rotate_270(image: ThermalImage, buf: &[u8], out: &mut [u8]) -> Answer
-    ensures { λ r. ⌜ r ≡ turned Turn.ThreeQuarters image (length (now (buf .entry))) (length (now (out .entry))) ⌝ }
-    ensures { λ _. ⌜ now (out .exit) ≡ turnOn Turn.ThreeQuarters image (now (buf .entry)) (now (out .entry)) ⌝ }
+    ensures { λ r. ⌜ r ≡ rotated Turn.ThreeQuarters image (length (now (buf .entry))) (length (now (out .entry))) ⌝ }
+    ensures { λ _. ⌜ now (out .exit) ≡ rotatedOn Turn.ThreeQuarters image (now (buf .entry)) (now (out .entry)) ⌝ }
 {
     image.rotate_270(buf, out)
 }

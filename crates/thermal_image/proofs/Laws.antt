@@ -14,7 +14,7 @@ use Rattle.moves.specs.Moves.{loweredOn}
 use Rattle.moves.proofs.Laws.{lowered-paper, lowered-dot}
 use Rattle.moves.proofs.Turns.{in-picture}
 use Rattle.thermal_image.specs.declared.ThermalImage.{ThermalImage}
-use Rattle.thermal_image.specs.Canvas.{sized, finished, answered, written, papered, grown, grownOn, lowered, lowerOn}
+use Rattle.thermal_image.specs.Canvas.{sized, finished, answered, written, papered, grown, grownOn, margined, marginedOn}
 use Rattle.refusals.specs.Refusals.{growRefusal, marginRefusal}
 use Rattle.refusals.proofs.Codes.{rows-some, grow-done, margin-done}
 use Rattle.thermal_image.proofs.Paper.{more-rows, papered-kept, papered-new}
@@ -53,25 +53,25 @@ module _ (t : ThermalImage) where
 
   -- ---- a margin
 
-  pub margin-record : (rows n : ℕ) → marginRefusal (t .width) (t .height) rows n ≡ done → 0 < t .width → lowered t rows n ≡ finished (sized t (t .width) (t .height + rows))
-  unfolding lowered answered
+  pub margin-record : (rows n : ℕ) → marginRefusal (t .width) (t .height) rows n ≡ done → 0 < t .width → margined t rows n ≡ finished (sized t (t .width) (t .height + rows))
+  unfolding margined answered
   margin-record rows n e h = rw (e, rows-some (t .width) (t .height + rows) h) refl
 
   pub margin-lowered : (rows : ℕ) (l : List ℕ) → marginRefusal (t .width) (t .height) rows (length l) ≡ done
-      → lowerOn t rows l ≡ loweredOn (t .width * t .height) (t .width * rows) (t .«paper_color») l
-  unfolding lowerOn written
+      → marginedOn t rows l ≡ loweredOn (t .width * t .height) (t .width * rows) (t .«paper_color») l
+  unfolding marginedOn written
   margin-lowered rows l e = rw e
 
   module _ (rows x y : ℕ) (l : List ℕ) (e : marginRefusal (t .width) (t .height) rows (length l) ≡ done) (a : x < t .width) where
     -- a dot of the margin is paper
-    pub margin-paper : y < rows → dotAt (lowerOn t rows l) (at x y) ≡ t .«paper_color»
+    pub margin-paper : y < rows → dotAt (marginedOn t rows l) (at x y) ≡ t .«paper_color»
     margin-paper b =
         let f = margin-done (t .width) (t .height) rows (length l) e in
         let i = within-rows x y rows a b in
         rw (margin-lowered rows l e) (lowered-paper _ _ _ l (at x y) i (omega (arith, f .room, mul-add (t .width) (t .height) rows)))
 
     -- a dot that was there is `rows` rows lower
-    pub margin-moved : y < t .height → dotAt (lowerOn t rows l) (at x (rows + y)) ≡ dotAt l (at x y)
+    pub margin-moved : y < t .height → dotAt (marginedOn t rows l) (at x (rows + y)) ≡ dotAt l (at x y)
     margin-moved b =
         let f = margin-done (t .width) (t .height) rows (length l) e in
         let i = within-rows x y (t .height) a b in

@@ -1,6 +1,6 @@
 -- The contract of each entry leaves one answer and one content of the buffer that it may write to. Assumes nothing.
 use denote.Ref.{now}
-use Rattle.colour.proofs.OneAnswer.{OneAnswer, OneContent, both}
+use Rattle.numbers.proofs.OneAnswer.{OneAnswer, OneContent, both}
 use Rattle.thermal_image.proofs.ThermalImage.new.Reads as new
 use Rattle.thermal_image.proofs.ThermalImage.get_height.Reads as get-height
 use Rattle.thermal_image.proofs.ThermalImage.expand_to_height.Reads as expand-to-height

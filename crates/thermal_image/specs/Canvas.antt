@@ -10,7 +10,7 @@ use Rattle.colour.specs.declared.RGBA.{RGBA}
 use Rattle.colour.specs.Colour.{blank, white}
 use Rattle.dots.specs.Dots.{change, within}
 use Rattle.moves.specs.declared.turned.Turn.{Turn}
-use Rattle.moves.specs.Moves.{loweredOn, widenedOn, copiedTo, rgbTo, turnedWide, turnedTall, turnedOn}
+use Rattle.moves.specs.Moves.{loweredOn, paddedOn, copiedTo, rgbTo, turnedWide, turnedTall, turnedOn}
 use Rattle.refusals.specs.Refusals.{unsound, wideRefusal, rowsOf, growRefusal, marginRefusal, widenRefusal, widthRefusal, outRefusal, rgbRefusal}
 use Rattle.thermal_image.specs.declared.ThermalImage.{ThermalImage}
 use Rattle.thermal_image.specs.declared.Answer.{Answer}
@@ -57,21 +57,21 @@ grownOn t height l = written (growRefusal (t .width) (t .height) height (length 
 
 -- ---- a top margin adds rows of paper above; with W = 0 the height stays 0. Order 9, 8, 1
 
-unfoldable pub lowered : ThermalImage → ℕ → ℕ → Answer
-lowered t rows n = answered (marginRefusal (t .width) (t .height) rows n) t (sized t (t .width) (rowsOf (t .width) (t .height + rows)))
+unfoldable pub margined : ThermalImage → ℕ → ℕ → Answer
+margined t rows n = answered (marginRefusal (t .width) (t .height) rows n) t (sized t (t .width) (rowsOf (t .width) (t .height + rows)))
 
-unfoldable pub lowerOn : ThermalImage → ℕ → List ℕ → List ℕ
-lowerOn t rows l = written (marginRefusal (t .width) (t .height) rows (length l)) l (loweredOn (t .width * t .height) (t .width * rows) (t .«paper_color») l)
+unfoldable pub marginedOn : ThermalImage → ℕ → List ℕ → List ℕ
+marginedOn t rows l = written (marginRefusal (t .width) (t .height) rows (length l)) l (loweredOn (t .width * t .height) (t .width * rows) (t .«paper_color») l)
 
 -- ---- widening puts floor((new − W)/2) paper dots at the left and the rest at the right; a smaller width is done and changes nothing. Order 9, 2, 1
 
 unfoldable pub widened : ThermalImage → ℕ → ℕ → Answer
 widened t new n = answered (widenRefusal (t .width) (t .height) new n) t (sized t (max (t .width) new) (t .height))
 
-unfoldable pub widenOn : ThermalImage → ℕ → List ℕ → List ℕ
-widenOn t new l =
+unfoldable pub widenedOn : ThermalImage → ℕ → List ℕ → List ℕ
+widenedOn t new l =
     written (widenRefusal (t .width) (t .height) new (length l)) l
-    (if leb new (t .width) then l else widenedOn (t .width) (t .height) new ((new - t .width) / 2) (t .«paper_color») l)
+    (if leb new (t .width) then l else paddedOn (t .width) (t .height) new ((new - t .width) / 2) (t .«paper_color») l)
 
 -- ---- setting the width empties the canvas (order 9, 2, and 1 cannot arise); `empty` and `reset` give H = 0 and keep W (order 9). No byte is written
 
@@ -92,8 +92,8 @@ copyAnswer number t =
 unfoldable pub copied : ThermalImage → ℕ → ℕ → Copied
 copied t n room = copyAnswer (outRefusal (t .width) (t .height) n room) t
 
-unfoldable pub copyOn : ThermalImage → List ℕ → List ℕ → List ℕ
-copyOn t l out = written (outRefusal (t .width) (t .height) (length l) (length out)) out (copiedTo (t .width * t .height) l out)
+unfoldable pub copiedOn : ThermalImage → List ℕ → List ℕ → List ℕ
+copiedOn t l out = written (outRefusal (t .width) (t .height) (length l) (length out)) out (copiedTo (t .width * t .height) l out)
 
 -- RGB output writes 3 bytes a dot and answers W and H; the canvas then has W = H = 0
 
@@ -110,10 +110,10 @@ rgbOn t l out = written (rgbRefusal (t .width) (t .height) (length l) (length ou
 
 -- ---- turned clockwise into the second buffer. For 90 and 270 W and H change places, and H = 0 gives W = H = 0, as no width has no height
 
-unfoldable pub turned : Turn → ThermalImage → ℕ → ℕ → Answer
-turned by t n room =
+unfoldable pub rotated : Turn → ThermalImage → ℕ → ℕ → Answer
+rotated by t n room =
     answered (outRefusal (t .width) (t .height) n room) t
     (sized t (turnedWide by (t .width) (t .height)) (rowsOf (turnedWide by (t .width) (t .height)) (turnedTall by (t .width) (t .height))))
 
-unfoldable pub turnOn : Turn → ThermalImage → List ℕ → List ℕ → List ℕ
-turnOn by t l out = written (outRefusal (t .width) (t .height) (length l) (length out)) out (turnedOn by (t .width) (t .height) l out)
+unfoldable pub rotatedOn : Turn → ThermalImage → List ℕ → List ℕ → List ℕ
+rotatedOn by t l out = written (outRefusal (t .width) (t .height) (length l) (length out)) out (turnedOn by (t .width) (t .height) l out)

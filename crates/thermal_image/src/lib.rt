@@ -4,7 +4,7 @@ mod sizes;
 
 ghost use mathlib.Core.Path.{_≡_};
 ghost use lib.ListN.{length};
-ghost use Rattle.thermal_image.specs.Canvas.{sized, finished, madeNew, grown, grownOn, lowered, lowerOn, widened, widenOn, setWidth, emptied, copied, copyOn, rgb, rgbOn, turned, turnOn};
+ghost use Rattle.thermal_image.specs.Canvas.{sized, finished, madeNew, grown, grownOn, margined, marginedOn, widened, widenedOn, setWidth, emptied, copied, copiedOn, rgb, rgbOn, rotated, rotatedOn};
 ghost use Rattle.refusals.specs.Refusals.{rowsOf};
 ghost use Rattle.moves.specs.declared.turned.Turn.{Turn};
 use colour::RGBA;
@@ -16,8 +16,8 @@ use moves::rgb_bytes;
 use moves::turn;
 use moves::widen;
 use numbers::DONE;
+use numbers::larger_side;
 use refusals::grow_refusal;
-use refusals::larger;
 use refusals::margin_refusal;
 use refusals::out_refusal;
 use refusals::rgb_refusal;
@@ -126,7 +126,7 @@ impl ThermalImage {
                 image: self,
             };
         }
-        let tall = larger(self.height, height);
+        let tall = larger_side(self.height, height);
         let at = self.width as usize * self.height as usize;
         let end = self.width as usize * tall as usize;
         fill_run(buf, at, end - at, self.paper_color);
@@ -134,8 +134,8 @@ impl ThermalImage {
     }
 
     pub fn add_top_margin(self, height: u32, buf: &mut [u8]) -> Answer
-        ensures { λ r. ⌜ r ≡ lowered self height (length (now (buf .entry))) ⌝ }
-        ensures { λ _. ⌜ now (buf .exit) ≡ lowerOn self height (now (buf .entry)) ⌝ }
+        ensures { λ r. ⌜ r ≡ margined self height (length (now (buf .entry))) ⌝ }
+        ensures { λ _. ⌜ now (buf .exit) ≡ marginedOn self height (now (buf .entry)) ⌝ }
     {
         let number = margin_refusal(self.width, self.height, height, buf.len());
         if number != DONE {
@@ -152,7 +152,7 @@ impl ThermalImage {
 
     pub fn expand_to_width(self, new_width: u32, buf: &mut [u8]) -> Answer
         ensures { λ r. ⌜ r ≡ widened self «new_width» (length (now (buf .entry))) ⌝ }
-        ensures { λ _. ⌜ now (buf .exit) ≡ widenOn self «new_width» (now (buf .entry)) ⌝ }
+        ensures { λ _. ⌜ now (buf .exit) ≡ widenedOn self «new_width» (now (buf .entry)) ⌝ }
     {
         let number = widen_refusal(self.width, self.height, new_width, buf.len());
         if number != DONE {
@@ -210,7 +210,7 @@ impl ThermalImage {
 
     pub fn copy(self, buf: &[u8], out: &mut [u8]) -> Copied
         ensures { λ r. ⌜ r ≡ copied self (length (now (buf .entry))) (length (now (out .entry))) ⌝ }
-        ensures { λ _. ⌜ now (out .exit) ≡ copyOn self (now (buf .entry)) (now (out .entry)) ⌝ }
+        ensures { λ _. ⌜ now (out .exit) ≡ copiedOn self (now (buf .entry)) (now (out .entry)) ⌝ }
     {
         let number = out_refusal(self.width, self.height, buf.len(), out.len());
         if number != DONE {
@@ -255,29 +255,29 @@ impl ThermalImage {
     }
 
     pub fn rotate_90(self, buf: &[u8], out: &mut [u8]) -> Answer
-        ensures { λ r. ⌜ r ≡ turned Turn.Quarter self (length (now (buf .entry))) (length (now (out .entry))) ⌝ }
-        ensures { λ _. ⌜ now (out .exit) ≡ turnOn Turn.Quarter self (now (buf .entry)) (now (out .entry)) ⌝ }
+        ensures { λ r. ⌜ r ≡ rotated Turn.Quarter self (length (now (buf .entry))) (length (now (out .entry))) ⌝ }
+        ensures { λ _. ⌜ now (out .exit) ≡ rotatedOn Turn.Quarter self (now (buf .entry)) (now (out .entry)) ⌝ }
     {
         self.rotate(Turn::Quarter, buf, out)
     }
 
     pub fn rotate_180(self, buf: &[u8], out: &mut [u8]) -> Answer
-        ensures { λ r. ⌜ r ≡ turned Turn.Half self (length (now (buf .entry))) (length (now (out .entry))) ⌝ }
-        ensures { λ _. ⌜ now (out .exit) ≡ turnOn Turn.Half self (now (buf .entry)) (now (out .entry)) ⌝ }
+        ensures { λ r. ⌜ r ≡ rotated Turn.Half self (length (now (buf .entry))) (length (now (out .entry))) ⌝ }
+        ensures { λ _. ⌜ now (out .exit) ≡ rotatedOn Turn.Half self (now (buf .entry)) (now (out .entry)) ⌝ }
     {
         self.rotate(Turn::Half, buf, out)
     }
 
     pub fn rotate_270(self, buf: &[u8], out: &mut [u8]) -> Answer
-        ensures { λ r. ⌜ r ≡ turned Turn.ThreeQuarters self (length (now (buf .entry))) (length (now (out .entry))) ⌝ }
-        ensures { λ _. ⌜ now (out .exit) ≡ turnOn Turn.ThreeQuarters self (now (buf .entry)) (now (out .entry)) ⌝ }
+        ensures { λ r. ⌜ r ≡ rotated Turn.ThreeQuarters self (length (now (buf .entry))) (length (now (out .entry))) ⌝ }
+        ensures { λ _. ⌜ now (out .exit) ≡ rotatedOn Turn.ThreeQuarters self (now (buf .entry)) (now (out .entry)) ⌝ }
     {
         self.rotate(Turn::ThreeQuarters, buf, out)
     }
 
     fn rotate(self, by: Turn, buf: &[u8], out: &mut [u8]) -> Answer
-        ensures { λ r. ⌜ r ≡ turned by self (length (now (buf .entry))) (length (now (out .entry))) ⌝ }
-        ensures { λ _. ⌜ now (out .exit) ≡ turnOn by self (now (buf .entry)) (now (out .entry)) ⌝ }
+        ensures { λ r. ⌜ r ≡ rotated by self (length (now (buf .entry))) (length (now (out .entry))) ⌝ }
+        ensures { λ _. ⌜ now (out .exit) ≡ rotatedOn by self (now (buf .entry)) (now (out .entry)) ⌝ }
     {
         let number = out_refusal(self.width, self.height, buf.len(), out.len());
         if number != DONE {

@@ -1,7 +1,7 @@
 -- Each public function's contract leaves one answer, or one content of the lent buffer. Assumes nothing.
 use mathlib.Core.Path.{refl}
 use denote.Ref.{now}
-use Rattle.colour.proofs.OneAnswer.{OneAnswer, OneContent, both}
+use Rattle.numbers.proofs.OneAnswer.{OneAnswer, OneContent, both}
 use Rattle.vectors.proofs.buffers.fresh_buffer.Reads as fresh-buffer
 use Rattle.vectors.proofs.buffers.list_space.Reads as list-space
 use Rattle.vectors.proofs.hex.byte_at.Reads as byte-at

@@ -14,8 +14,8 @@ tall-refusal-requires c κs = search needs
 first-requires : tie.Need-first-requires
 first-requires c κs = search needs
 
-larger-requires : tie.Need-larger-requires
-larger-requires c κs = search needs
+larger-side-requires : tie.Need-larger-side-requires
+larger-side-requires c κs = search needs
 
 room-refusal-requires : tie.Need-room-refusal-requires
 room-refusal-requires c κs = search needs
@@ -29,7 +29,7 @@ returns c =
     let l = c .before .before in
     let f = l .before in
     let h = f .before in
-    c .first2 .ensures ∙ rw (c .before .room-refusal .ensures, l .larger .ensures, f .first .ensures, h .tall-refusal .ensures, h .before .unsound .ensures)
+    c .first2 .ensures ∙ rw (c .before .room-refusal .ensures, l .larger-side .ensures, f .first .ensures, h .tall-refusal .ensures, h .before .unsound .ensures)
 
 pub grow-refusal-spec : {M : Type 1} → statement M
 grow-refusal-spec =
@@ -38,7 +38,7 @@ grow-refusal-spec =
     unsound-requires
     tall-refusal-requires
     first-requires
-    larger-requires
+    larger-side-requires
     room-refusal-requires
     first-requires-2
     returns)

@@ -26,11 +26,11 @@ asked c = rows-asked _ _ _ _ _ _ _ _ (c .pre)
 loop-holds : tie.Need-loop-holds Inv-loop μ-loop
 loop-holds c = banded-start _ _ (c .before .before .args .plan .«paper_color») _ _ _ _
 
-sub-least : tie.Need-sub-least Inv-loop μ-loop
-sub-least c = search needs
+sub-smaller-side : tie.Need-sub-smaller-side Inv-loop μ-loop
+sub-smaller-side c = search needs
 
-least-requires : tie.Need-least-requires Inv-loop μ-loop
-least-requires c κs = search needs
+smaller-side-requires : tie.Need-smaller-side-requires Inv-loop μ-loop
+smaller-side-requires c κs = search needs
 
 add-draw-rows : tie.Need-add-draw-rows Inv-loop μ-loop
 add-draw-rows c = let g = asked (c .before .before .before .before .before) in omega (arith, g .within, g .good .sizes .tall)
@@ -40,18 +40,18 @@ draw-rows-requires c κs =
     let a = c .before .before .before .before .before .before .args in
     let g = asked (c .before .before .before .before .before .before) in
     let l = c .before .before .before .loop in
-    let n = c .before .least .result in
-    let few : l .j + n ≤ a .count = omega (arith, c .before .least .ensures) in
+    let n = c .before .smaller-side .result in
+    let few : l .j + n ≤ a .count = omega (arith, c .before .smaller-side .ensures) in
     (good-plan _ _ _ _ _ (g .good), omega (arith, g .within, few), omega (arith, g .room, l .inv .same, mul-le-mul-right (a .plan .width) few))
 
 add-j : tie.Need-add-j Inv-loop μ-loop
 add-j c = search needs
 
 loop-less : tie.Need-loop-less Inv-loop μ-loop
-loop-less c = omega (arith, c .before .before .before .before .least .ensures)
+loop-less c = omega (arith, c .before .before .before .before .smaller-side .ensures)
 
 loop-again : tie.Need-loop-again Inv-loop μ-loop
-loop-again c = banded-next _ _ (c .before .before .before .before .before .before .before .before .before .args .plan .«paper_color») _ _ _ _ _ (asked (c .before .before .before .before .before .before .before .before .before) .good .sizes .some) (c .before .before .before .before .before .before .loop .inv) (omega (arith, c .before .before .before .before .least .ensures)) (c .before .before .draw-rows .ensures)
+loop-again c = banded-next _ _ (c .before .before .before .before .before .before .before .before .before .args .plan .«paper_color») _ _ _ _ _ (asked (c .before .before .before .before .before .before .before .before .before) .good .sizes .some) (c .before .before .before .before .before .before .loop .inv) (omega (arith, c .before .before .before .before .smaller-side .ensures)) (c .before .before .draw-rows .ensures)
 
 same-length : tie.Need-same-length Inv-loop μ-loop
 same-length c = omega (arith, c .before .loop .inv .same)
@@ -66,8 +66,8 @@ draw-bands-spec =
     Inv-loop
     μ-loop
     loop-holds
-    sub-least
-    least-requires
+    sub-smaller-side
+    smaller-side-requires
     add-draw-rows
     draw-rows-requires
     add-j

@@ -18,11 +18,11 @@ abbrev μ-loop : tie.MeasureT-loop
 loop-holds : tie.Need-loop-holds Inv-loop μ-loop
 loop-holds c = bits-start _ _ _ _ _ _
 
-sub-least : tie.Need-sub-least Inv-loop μ-loop
-sub-least c = search needs
+sub-smaller : tie.Need-sub-smaller Inv-loop μ-loop
+sub-smaller c = search needs
 
-least-requires : tie.Need-least-requires Inv-loop μ-loop
-least-requires c κs = search needs
+smaller-requires : tie.Need-smaller-requires Inv-loop μ-loop
+smaller-requires c κs = search needs
 
 add-stamp-some : tie.Need-add-stamp-some Inv-loop μ-loop
 add-stamp-some c = search needs
@@ -44,7 +44,7 @@ loop-less : tie.Need-loop-less Inv-loop μ-loop
 loop-less c = search needs
 
 loop-again : tie.Need-loop-again Inv-loop μ-loop
-loop-again c = bits-next _ _ _ _ _ _ (c .before .before .before .before .before .before .before .before .loop .inv) (c .before .before .before .before .before .before .before .loop-test .taken) (c .before .before .before .before .before .before .least .ensures) refl (c .before .before .stamp-some .ensures)
+loop-again c = bits-next _ _ _ _ _ _ (c .before .before .before .before .before .before .before .before .loop .inv) (c .before .before .before .before .before .before .before .loop-test .taken) (c .before .before .before .before .before .before .smaller .ensures) refl (c .before .before .stamp-some .ensures)
 
 same-length : tie.Need-same-length Inv-loop μ-loop
 same-length c = omega arith
@@ -59,8 +59,8 @@ stamp-eights-spec =
     Inv-loop
     μ-loop
     loop-holds
-    sub-least
-    least-requires
+    sub-smaller
+    smaller-requires
     add-stamp-some
     add-stamp-some-2
     shared-slice-read-stamp-some

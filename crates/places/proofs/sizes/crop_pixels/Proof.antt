@@ -20,18 +20,18 @@ returns c = let n = sym (c .before .cropped .ensures) ∙ not-true _ (c .if1 .ta
 left-of-requires : tie.Need-left-of-requires
 left-of-requires c κs = search needs
 
-smaller-requires : tie.Need-smaller-requires
-smaller-requires c κs = search needs
+smaller-side-requires : tie.Need-smaller-side-requires
+smaller-side-requires c κs = search needs
 
 returns-2 : tie.Need-returns-2
 unfolding cropWide cropTall
-returns-2 c = let s = c .before in let n = is (s .before .before) in (s .smaller .ensures ∙ rw (s .before .left-of .ensures, n), rw (n, c .if2 .taken))
+returns-2 c = let s = c .before in let n = is (s .before .before) in (s .smaller-side .ensures ∙ rw (s .before .left-of .ensures, n), rw (n, c .if2 .taken))
 
 left-of-requires-2 : tie.Need-left-of-requires-2
 left-of-requires-2 c κs = search needs
 
-smaller-requires-2 : tie.Need-smaller-requires-2
-smaller-requires-2 c κs = search needs
+smaller-side-requires-2 : tie.Need-smaller-side-requires-2
+smaller-side-requires-2 c κs = search needs
 
 returns-3 : tie.Need-returns-3
 unfolding cropWide cropTall
@@ -39,7 +39,7 @@ returns-3 c =
     let e = c .before .before in
     let s = e .before in
     let n = is (s .before .before) in
-    (s .smaller .ensures ∙ rw (s .before .left-of .ensures, n), c .smaller2 .ensures ∙ rw (c .before .left-of2 .ensures, n, e .if2 .left))
+    (s .smaller-side .ensures ∙ rw (s .before .left-of .ensures, n), c .smaller-side2 .ensures ∙ rw (c .before .left-of2 .ensures, n, e .if2 .left))
 
 pub crop-pixels-spec : {M : Type 1} → statement M
 crop-pixels-spec =
@@ -48,8 +48,8 @@ crop-pixels-spec =
     cropped-requires
     returns
     left-of-requires
-    smaller-requires
+    smaller-side-requires
     returns-2
     left-of-requires-2
-    smaller-requires-2
+    smaller-side-requires-2
     returns-3)

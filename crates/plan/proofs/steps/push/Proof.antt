@@ -13,14 +13,14 @@ element-set-from-e c = search needs
 add-p : tie.Need-add-p
 add-p c = search needs
 
-add-larger : tie.Need-add-larger
-add-larger c = search needs
+add-larger-side : tie.Need-add-larger-side
+add-larger-side c = search needs
 
-larger-requires : tie.Need-larger-requires
-larger-requires c κs = search needs
+larger-side-requires : tie.Need-larger-side-requires
+larger-side-requires c κs = search needs
 
 returns : tie.Need-returns
-returns c = pushed-high (c .before .before .args .plan) (c .before .before .args .e) (c .larger .ensures)
+returns c = pushed-high (c .before .before .args .plan) (c .before .before .args .e) (c .larger-side .ensures)
 
 pub push-spec : {M : Type 1} → statement M
-push-spec = tie.close (tie.spec mul-e element-set-from-e add-p add-larger larger-requires returns)
+push-spec = tie.close (tie.spec mul-e element-set-from-e add-p add-larger-side larger-side-requires returns)

@@ -6,7 +6,7 @@ use native.Mathlib.Omega.{arith}
 use lib.ListN.{length}
 use denote.Ref.{now}
 use Rattle.numbers.proofs.Sides.{area}
-use Rattle.thermal_image.specs.Canvas.{lowered, lowerOn}
+use Rattle.thermal_image.specs.Canvas.{margined, marginedOn}
 use Rattle.refusals.proofs.Codes.{Fits, margin-done}
 use Rattle.thermal_image.proofs.Answers.{refused, did, kept, changed}
 use borrow.Author.Needs.{needs}
@@ -20,7 +20,7 @@ margin-refusal-requires : tie.Need-margin-refusal-requires
 margin-refusal-requires c κs = search needs
 
 returns : tie.Need-returns
-unfolding lowered lowerOn
+unfolding margined marginedOn
 returns c = let g = c .before .margin-refusal .ensures in (refused g _ _ (c .if1 .taken), kept g _ _ (c .if1 .taken))
 
 cast-dots : tie.Need-cast-dots
@@ -54,7 +54,7 @@ same-length : tie.Need-same-length
 same-length c = search needs
 
 returns-2 : tie.Need-returns-2
-unfolding lowered lowerOn
+unfolding margined marginedOn
 returns-2 c =
     let f = c .before .before .before .before .before in
     let d = f .before .before .before .before .before in

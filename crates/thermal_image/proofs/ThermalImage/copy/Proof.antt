@@ -5,7 +5,7 @@ use native.Mathlib.Omega.{arith}
 use lib.ListN.{length}
 use denote.Ref.{now}
 use Rattle.numbers.proofs.Sides.{area}
-use Rattle.thermal_image.specs.Canvas.{copied, copyOn}
+use Rattle.thermal_image.specs.Canvas.{copied, copiedOn}
 use Rattle.refusals.proofs.Codes.{Sound, out-done}
 use Rattle.thermal_image.proofs.Answers.{kept, changed, copy-refused, copy-did}
 use borrow.Author.Needs.{needs}
@@ -20,7 +20,7 @@ out-refusal-requires : tie.Need-out-refusal-requires
 out-refusal-requires c κs = search needs
 
 returns : tie.Need-returns
-unfolding copied copyOn
+unfolding copied copiedOn
 returns c = let g = c .before .out-refusal .ensures in (copy-refused g _ (c .if1 .taken), kept g _ _ (c .if1 .taken))
 
 cast-dots : tie.Need-cast-dots
@@ -39,7 +39,7 @@ same-length : tie.Need-same-length
 same-length c = search needs
 
 returns-2 : tie.Need-returns-2
-unfolding copied copyOn
+unfolding copied copiedOn
 returns-2 c =
     let f = c .before .before in
     let d = f .before .before .before .before in

@@ -14,11 +14,11 @@ use Rattle.thermal_image.proofs.ThermalImage.expand_to_height.Statement
 use Rattle.thermal_image.proofs.ThermalImage.expand_to_height.Tie as tie
 
 -- no fewer rows than before, and room for them
-fits : (c : tie.After-larger) → let p = c .before .before .before .before .args in
-    (p .self .height ≤ c .larger .result) × Fits (p .self .width) (p .self .height) (p .self .width) (c .larger .result) (length (now (p .buf)))
+fits : (c : tie.After-larger-side) → let p = c .before .before .before .before .args in
+    (p .self .height ≤ c .larger-side .result) × Fits (p .self .width) (p .self .height) (p .self .width) (c .larger-side .result) (length (now (p .buf)))
 fits c =
     let d = c .before in
-    (omega (arith, c .larger .ensures), rw (c .larger .ensures) (grow-done _ _ _ _ (sym (d .before .grow-refusal .ensures) ∙ d .if1 .left)))
+    (omega (arith, c .larger-side .ensures), rw (c .larger-side .ensures) (grow-done _ _ _ _ (sym (d .before .grow-refusal .ensures) ∙ d .if1 .left)))
 
 grow-refusal-requires : tie.Need-grow-refusal-requires
 grow-refusal-requires c κs = search needs
@@ -27,8 +27,8 @@ returns : tie.Need-returns
 unfolding grown grownOn
 returns c = let g = c .before .grow-refusal .ensures in (refused g _ _ (c .if1 .taken), kept g _ _ (c .if1 .taken))
 
-larger-requires : tie.Need-larger-requires
-larger-requires c κs = search needs
+larger-side-requires : tie.Need-larger-side-requires
+larger-side-requires c κs = search needs
 
 cast-at : tie.Need-cast-at
 cast-at c = search needs
@@ -70,8 +70,8 @@ returns-2 c =
     let a = f .before .before .before .before .before in
     let d = a .before in
     let g = d .before .grow-refusal .ensures in (
-      did g _ _ (d .if1 .left) (c .sized .ensures ∙ rw (c .before .rows-of .ensures, a .larger .ensures)),
-      changed g _ _ (d .if1 .left) (papered-run _ _ _ _ _ (a .larger .ensures) (f .fill-run .ensures)),
+      did g _ _ (d .if1 .left) (c .sized .ensures ∙ rw (c .before .rows-of .ensures, a .larger-side .ensures)),
+      changed g _ _ (d .if1 .left) (papered-run _ _ _ _ _ (a .larger-side .ensures) (f .fill-run .ensures)),
     )
 
 pub expand-to-height-spec : {M : Type 1} → statement M
@@ -80,7 +80,7 @@ expand-to-height-spec =
     (tie.spec
     grow-refusal-requires
     returns
-    larger-requires
+    larger-side-requires
     cast-at
     cast-at-2
     mul-at

@@ -5,7 +5,7 @@ use native.Mathlib.Omega.{arith}
 use lib.ListN.{length}
 use denote.Ref.{now}
 use borrow.Author.Tests.{le-leb, lt-leb}
-use Rattle.thermal_image.specs.Canvas.{finished, sized, widened, widenOn}
+use Rattle.thermal_image.specs.Canvas.{finished, sized, widened, widenedOn}
 use Rattle.refusals.proofs.Codes.{Fits, widen-done}
 use Rattle.thermal_image.proofs.Answers.{refused, did, kept, changed}
 use borrow.Author.Needs.{needs}
@@ -19,14 +19,14 @@ widen-refusal-requires : tie.Need-widen-refusal-requires
 widen-refusal-requires c κs = search needs
 
 returns : tie.Need-returns
-unfolding widened widenOn
+unfolding widened widenedOn
 returns c = let g = c .before .widen-refusal .ensures in (refused g _ _ (c .if1 .taken), kept g _ _ (c .if1 .taken))
 
 sized-requires : tie.Need-sized-requires
 sized-requires c κs = search needs
 
 returns-2 : tie.Need-returns-2
-unfolding widened widenOn
+unfolding widened widenedOn
 returns-2 c =
     let t = c .before in
     let d = t .before .before in
@@ -58,7 +58,7 @@ same-length : tie.Need-same-length
 same-length c = search needs
 
 returns-3 : tie.Need-returns-3
-unfolding widened widenOn
+unfolding widened widenedOn
 returns-3 c =
     let w = c .before .before .before in
     let k = w .before .before .before .before .before in

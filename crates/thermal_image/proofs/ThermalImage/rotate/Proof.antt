@@ -4,7 +4,7 @@ use Prim.Native.Nat.{_*_, _≤_}
 use native.Mathlib.Omega.{arith}
 use lib.ListN.{length}
 use denote.Ref.{now}
-use Rattle.thermal_image.specs.Canvas.{turned, turnOn}
+use Rattle.thermal_image.specs.Canvas.{rotated, rotatedOn}
 use Rattle.refusals.proofs.Codes.{Sound, out-done}
 use Rattle.thermal_image.proofs.Answers.{refused, did, kept, changed}
 use borrow.Author.Needs.{needs}
@@ -19,7 +19,7 @@ out-refusal-requires : tie.Need-out-refusal-requires
 out-refusal-requires c κs = search needs
 
 returns : tie.Need-returns
-unfolding turned turnOn
+unfolding rotated rotatedOn
 returns c = let g = c .before .out-refusal .ensures in (refused g _ _ (c .if1 .taken), kept g _ _ (c .if1 .taken))
 
 cast-turn : tie.Need-cast-turn
@@ -47,7 +47,7 @@ same-length : tie.Need-same-length
 same-length c = search needs
 
 returns-2 : tie.Need-returns-2
-unfolding turned turnOn
+unfolding rotated rotatedOn
 returns-2 c =
     let r = c .before in
     let h = r .before in
