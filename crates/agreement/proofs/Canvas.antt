@@ -33,7 +33,7 @@ use Rattle.entries.specs.declared.Entry.{Entry}
 use Rattle.entries.specs.Entries.{rectangleEntry, imageEntry, imagePixel, entryPixel}
 use Rattle.entries.proofs.Drawing.{entry-rows}
 use Rattle.thermal_image.specs.declared.ThermalImage.{ThermalImage}
-use Rattle.refusals.specs.Refusals.{first, unsound, tallRefusal, roomRefusal, sideRefusal, emptyRefusal, marginRefusal}
+use Rattle.refusals.specs.Refusals.{first, canvasRefusal, tallRefusal, roomRefusal, sideRefusal, emptyRefusal, marginRefusal}
 use Rattle.thermal_image.specs.Canvas.{canvas, sized, finished, papered}
 use Rattle.thermal_image.proofs.Laws.{margin-record, margin-lowered}
 use Rattle.refusals.proofs.Codes.{first-some, first-none, first-then, first-done}
@@ -53,7 +53,7 @@ factor-some n = by (eqb n 0) refl
     by true e = omega arith
     by false e = omega (arith, eqb-false n 0 e)
 
-module _ (s : List ℕ) (W H : ℕ) (paper : RGBA) (l : List ℕ) (some : 1 ≤ W) (sound : unsound W H (length l) ≡ done) where
+module _ (s : List ℕ) (W H : ℕ) (paper : RGBA) (l : List ℕ) (some : 1 ≤ W) (sound : canvasRefusal W H (length l) ≡ done) where
   abbrev t : ThermalImage
   t = canvas W H true paper
 

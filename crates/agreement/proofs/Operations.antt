@@ -19,9 +19,9 @@ use Rattle.job.proofs.Reasons.{after-fits}
 use Rattle.job.proofs.Folds.{height-kept, height-dropped, kept-kept, kept-dropped, dropped-kept, dropped-dropped, height-more}
 use Rattle.job.proofs.Soundness.{Sane, sane-rectangle, sane-image, sane-margin, sane-flip, AllSane, sane-more}
 use Rattle.job.proofs.Walk.{good, commands-sane}
-use Rattle.refusals.specs.Refusals.{unsound, roomRefusal}
+use Rattle.refusals.specs.Refusals.{canvasRefusal, roomRefusal}
 use Rattle.thermal_image.specs.Canvas.{canvas, written}
-use Rattle.refusals.proofs.Codes.{first-some, first-none, first-done, room-done, rows-some, unsound-none}
+use Rattle.refusals.proofs.Codes.{first-some, first-none, first-done, room-done, rows-some, canvas-refusal-none}
 use Rattle.runs.specs.Pictures.{Picture, after, afterAll, shown}
 use Rattle.runs.specs.Run.{runRefusal, runPicture, runCanvas, runOn}
 use Rattle.runs.proofs.Pictures.{length-shown}
@@ -52,10 +52,10 @@ module _ (s l : List ℕ) (outs : Command → List ℕ) (lent : (c : Command) �
   room-for : {H H' : ℕ} → H ≤ H' → 4 * (W * H') ≤ length l → 4 * (W * H) ≤ length l
   room-for h r = omega (arith, mul-le-mul-left W h)
 
-  canvas-sound : (H : ℕ) (p : Picture) → H ≤ limit → 4 * (W * H) ≤ length l → unsound W H (length (shown W H p l)) ≡ done
+  canvas-sound : (H : ℕ) (p : Picture) → H ≤ limit → 4 * (W * H) ≤ length l → canvasRefusal W H (length (shown W H p l)) ≡ done
   canvas-sound H p h r =
       rw (length-shown W H p l)
-      (sym (unsound-none W H (length l) wide h {r = H} (sym (rows-some W H some)) (omega arith) (omega arith)))
+      (sym (canvas-refusal-none W H (length l) wide h {r = H} (sym (rows-some W H some)) (omega arith) (omega arith)))
 
   enough : (H : ℕ) (p : Picture) (H' : ℕ) → 4 * (W * H') ≤ length l → roomRefusal W H' (length (shown W H p l)) ≡ done
   unfolding roomRefusal

@@ -10,7 +10,7 @@ use Rattle.numbers.specs.Numbers.{done}
 use Rattle.colour.proofs.Laws.{rgba-eq}
 use Rattle.dots.specs.Dots.{dotAt}
 use Rattle.job.specs.Commands.{paperWidth, paperColor, commands}
-use Rattle.job.specs.Dropping.{mostCommands, numberOf, jobRefusal, jobHeight, keptOf, jobDropped, padded}
+use Rattle.job.specs.Dropping.{mostCommands, numberOf, jobRefusal, jobHeight, keptOf, jobDropped, filledUp}
 use Rattle.job.proofs.Walk.{good}
 use Rattle.plan.specs.Plan.{entriesOf, translateRefusal, planOf, translated}
 use Rattle.rows.specs.Rows.{ink, rowWritten, rowGiven, used, planRefusal, planWritten, planGiven, planRowsRefusal, planRowsWritten}
@@ -56,7 +56,7 @@ module _ (s : List ℕ) (g : Plannable s) where
   ran-is n r = rw (run-done n r)
 
   used-all : used (planOf s) ≡ entriesOf (paperWidth s) (keptOf s)
-  unfolding planOf padded
+  unfolding planOf filledUp
   used-all = firsts-all (entriesOf (paperWidth s) (keptOf s)) _
 
   -- every row is given

@@ -19,7 +19,7 @@ use Rattle.job.specs.Commands.{paperWidth, paperColor, multiplies, commands}
 use Rattle.job.specs.Dropping.{reasonOf, heightAfter, jobDropped}
 use Rattle.thermal_image.specs.declared.ThermalImage.{ThermalImage}
 use Rattle.thermal_image.specs.declared.Answer.{Answer}
-use Rattle.refusals.specs.Refusals.{first, unsound, roomRefusal, marginRefusal}
+use Rattle.refusals.specs.Refusals.{first, canvasRefusal, roomRefusal, marginRefusal}
 use Rattle.thermal_image.specs.Canvas.{canvas, finished, margined, marginedOn}
 use Rattle.places.specs.Places.{putRefusal, rectRefusal, flipRefusal}
 use Rattle.drawing.specs.Drawing.{put, putOn, rect, rectOn, flip, flipOn}
@@ -91,7 +91,7 @@ pub record OnCanvas (s : List ℕ) (W H : ℕ) (paper : RGBA) (l : List ℕ) (c 
 -- for every command and every sound canvas with growth on
 abbrev pub CommandsOnCanvas : Type 0
 CommandsOnCanvas =
-    (s out l : List ℕ) (W H : ℕ) (paper : RGBA) (c : Command) → 1 ≤ W → unsound W H (length l) ≡ done → Inside s c → length out ≡ pixelBytes c
+    (s out l : List ℕ) (W H : ℕ) (paper : RGBA) (c : Command) → 1 ≤ W → canvasRefusal W H (length l) ≡ done → Inside s c → length out ≡ pixelBytes c
     → OnCanvas s W H paper l c (outcome s out (canvas W H true paper) l c)
 
 -- ---- a run

@@ -1,5 +1,5 @@
 -- The value that `multiply_channel` rounds is near s * c * a / 65025. Assumes nothing.
-use Prim.Native.Nat.{ℕ, _*_, _≤_, _<_}
+use Prim.Native.Nat.{ℕ, _*_, _≤_}
 use native.Mathlib.Nat.{le-trans, mul-le-mul}
 use lib.Dec.{lit<, lit≤}
 use lib.Ieee.{binary32, mul, div}

@@ -17,7 +17,8 @@ use Rattle.areas.specs.Areas.{Fits, inArea, areaOn}
 use Rattle.areas.proofs.Laws.{area-none, area-by}
 use Rattle.job.specs.Commands.{rectangleKind, imageKind, soundMode, multiplies}
 use Rattle.entries.specs.declared.Entry.{Entry}
-use Rattle.entries.specs.Entries.{goodImage, goodKind, goodEntry, imagePixel, entryPixel, entryOn, ownRow, entryRows, Placed}
+use Rattle.entries.specs.Entries.{goodImage, goodKind, goodEntry, imagePixel, entryPixel, entryOn}
+use Rattle.entries.specs.Steps.{ownRow, entryRows, Placed}
 
 -- ---- what the rules come to
 

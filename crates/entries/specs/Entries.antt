@@ -4,14 +4,13 @@ use mathlib.Core.Bool.{Bool, _&&_, _||_}
 use mathlib.Core.List.{List}
 use lib.ListN.{drop}
 use lib.Dec.{leb, eqb}
-use Rattle.numbers.specs.Numbers.{limit}
 use Rattle.colour.specs.Choice.{if_then_else_}
 use Rattle.colour.specs.declared.RGBA.{RGBA}
 use Rattle.dots.specs.Dots.{drawn}
 use Rattle.images.specs.declared.formats.Format.the-variants.{Bits}
 use Rattle.images.specs.Formats.{bytesOf}
 use Rattle.images.specs.Stretching.{pixelOf}
-use Rattle.areas.specs.Areas.{inArea, areaOn}
+use Rattle.areas.specs.Areas.{inArea}
 use Rattle.job.specs.Commands.{rectangleKind, imageKind, soundMode, multiplies}
 use Rattle.entries.specs.declared.Entry.{Entry}
 
@@ -86,20 +85,3 @@ entryPixel s e i j = if eqb (e .kind) rectangleKind then e .color else imagePixe
 unfoldable pub entryOn : List ℕ → Entry → ℕ → ℕ → RGBA → RGBA
 entryOn s e i j d =
     if inArea (e .x) (e .y) (e .w) (e .h) i j then drawn (multiplies (e .mode)) (entryPixel s e (i - e .x) (j - e .y)) d else d
-
--- ---- the entry on rows of a buffer
-
--- the entry's pixel in column i of its own row own + j, drawn on the dot d
-abbrev pub ownRow : List ℕ → Entry → ℕ → ℕ → ℕ → RGBA → RGBA
-ownRow s e own i j d = drawn (multiplies (e .mode)) (entryPixel s e i (own + j)) d
-
--- the entry applied to `rows` rows of the picture from row `from` on, which stand in a buffer from row `top` on, W dots wide
-unfoldable pub entryRows : List ℕ → Entry → ℕ → ℕ → ℕ → ℕ → List ℕ → List ℕ
-entryRows s e W top from rows l = areaOn W 0 top W rows (λ i j d. entryOn s e i (from + j) d) l
-
--- sizes for which no sum wraps, and rows that lie in a buffer of n bytes
-pub record Placed (W top from rows n : ℕ) : Type 0 where
-  pub some : 1 ≤ W
-  pub wide : W ≤ limit
-  pub last : from + rows ≤ limit
-  pub room : (top + rows) * W * 4 ≤ n

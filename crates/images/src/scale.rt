@@ -1,7 +1,7 @@
 // From a source to dots: each source dot becomes a block of dots on the output.
 ghost use mathlib.Core.Path.{_≡_};
 ghost use mathlib.Core.Bool.{true};
-ghost use Prim.Native.Nat.{_+_, _-_, _*_, _/_, _≤_, _<_};
+ghost use Prim.Native.Nat.{_+_, _*_, _≤_, _<_};
 ghost use lib.ListN.{length};
 ghost use Rattle.dots.specs.Dots.{dotAt, setDot, change, within};
 ghost use Rattle.bits.specs.Bits.{landed};

@@ -11,7 +11,7 @@ use Rattle.numbers.specs.Numbers.{limit, done}
 use Rattle.colour.specs.Choice.{if_then_else_}
 use Rattle.job.specs.declared.commands.Command.{Command}
 use Rattle.job.specs.declared.commands.Command.the-variants.{Rectangle, Image, Margin, Flip}
-use Rattle.job.specs.Dropping.{mostCommands, reasonOf, heightAfter, kept, next, heightFrom, keptFrom, droppedFrom, padded}
+use Rattle.job.specs.Dropping.{mostCommands, reasonOf, heightAfter, kept, nextHeight, heightFrom, keptFrom, droppedFrom, filledUp}
 use Rattle.job.proofs.Reasons.{after-fits}
 
 -- ---- one command, kept or dropped
@@ -19,28 +19,28 @@ use Rattle.job.proofs.Reasons.{after-fits}
 module _ (W H : ℕ) (c : Command) (cs : List Command) where
   module _ (e : reasonOf W H c ≡ done) where
     pub height-kept : heightFrom W H (c ∷ cs) ≡ heightFrom W (heightAfter H c) cs
-    unfolding heightFrom next
+    unfolding heightFrom nextHeight
     height-kept = rw (eq-eqb (reasonOf W H c) done e)
 
     pub kept-kept : keptFrom W H (c ∷ cs) ≡ c ∷ keptFrom W (heightAfter H c) cs
-    unfolding keptFrom next
+    unfolding keptFrom nextHeight
     kept-kept = rw (eq-eqb (reasonOf W H c) done e)
 
     pub dropped-kept : (k : ℕ) → droppedFrom W H k (c ∷ cs) ≡ droppedFrom W (heightAfter H c) (k + 1) cs
-    unfolding droppedFrom next
+    unfolding droppedFrom nextHeight
     dropped-kept k = rw (eq-eqb (reasonOf W H c) done e)
 
   module _ (e : reasonOf W H c ≡ done → ⊥) where
     pub height-dropped : heightFrom W H (c ∷ cs) ≡ heightFrom W H cs
-    unfolding heightFrom next
+    unfolding heightFrom nextHeight
     height-dropped = rw (ne-eqb (reasonOf W H c) done e)
 
     pub kept-dropped : keptFrom W H (c ∷ cs) ≡ keptFrom W H cs
-    unfolding keptFrom next
+    unfolding keptFrom nextHeight
     kept-dropped = rw (ne-eqb (reasonOf W H c) done e)
 
     pub dropped-dropped : (k : ℕ) → droppedFrom W H k (c ∷ cs) ≡ record { place = k; reason = reasonOf W H c } ∷ droppedFrom W H (k + 1) cs
-    unfolding droppedFrom next
+    unfolding droppedFrom nextHeight
     dropped-dropped k = rw (ne-eqb (reasonOf W H c) done e)
 
 -- ---- the folds as one view: commands cs, from height H on, of which ks are kept, and the height becomes H'
@@ -56,7 +56,7 @@ keeps-step W H c cs true e f = keep (eqb-true _ _ e) (f (heightAfter H c))
 keeps-step W H c cs false e f = drop (f H)
 
 pub keeps : (W H : ℕ) (cs : List Command) → Keeps W H cs (keptFrom W H cs) (heightFrom W H cs)
-unfolding keptFrom heightFrom next
+unfolding keptFrom heightFrom nextHeight
 keeps W H [] = none
 keeps W H (c ∷ cs) = keeps-step W H c cs (kept W H c) refl (λ H'. keeps W H' cs)
 
@@ -84,9 +84,9 @@ height-more W H cs = keeps-more (keeps W H cs)
 
 -- ---- a list in a record, one more
 
-pub padded-more : {A : Type 0} (z a : A) (l : List A) → length l < mostCommands → set (padded z l) (length l) a ≡ padded z (l ++ (a ∷ []))
-unfolding padded
-padded-more z a l h =
+pub filled-more : {A : Type 0} (z a : A) (l : List A) → length l < mostCommands → set (filledUp z l) (length l) a ≡ filledUp z (l ++ (a ∷ []))
+unfolding filledUp
+filled-more z a l h =
     let n : ℕ = mostCommands - length (l ++ (a ∷ [])) in
     let e : mostCommands - length l ≡ suc n = omega (arith, length-append l (a ∷ [])) in
     rw e (set-append-seam l z (replicate n z) a ∙ sym (append-snoc l a (replicate n z)))

@@ -64,23 +64,23 @@ abbrev pub kept : ℕ → ℕ → Command → Bool
 kept W H c = eqb (reasonOf W H c) done
 
 -- the height after a command: a dropped one changes nothing
-unfoldable pub next : ℕ → ℕ → Command → ℕ
-next W H c = if kept W H c then heightAfter H c else H
+unfoldable pub nextHeight : ℕ → ℕ → Command → ℕ
+nextHeight W H c = if kept W H c then heightAfter H c else H
 
 unfoldable pub heightFrom : ℕ → ℕ → List Command → ℕ
 heightFrom W H [] = H
-heightFrom W H (c ∷ cs) = heightFrom W (next W H c) cs
+heightFrom W H (c ∷ cs) = heightFrom W (nextHeight W H c) cs
 
 unfoldable pub keptFrom : ℕ → ℕ → List Command → List Command
 keptFrom W H [] = []
-keptFrom W H (c ∷ cs) = if kept W H c then c ∷ keptFrom W (next W H c) cs else keptFrom W (next W H c) cs
+keptFrom W H (c ∷ cs) = if kept W H c then c ∷ keptFrom W (nextHeight W H c) cs else keptFrom W (nextHeight W H c) cs
 
 -- the dropped ones in order, by place and reason; k is the first command's place
 unfoldable pub droppedFrom : ℕ → ℕ → ℕ → List Command → List Dropped
 droppedFrom W H k [] = []
 droppedFrom W H k (c ∷ cs) =
-    if kept W H c then droppedFrom W (next W H c) (k + 1) cs
-    else record { place = k; reason = reasonOf W H c } ∷ droppedFrom W (next W H c) (k + 1) cs
+    if kept W H c then droppedFrom W (nextHeight W H c) (k + 1) cs
+    else record { place = k; reason = reasonOf W H c } ∷ droppedFrom W (nextHeight W H c) (k + 1) cs
 
 -- ---- the commands of the job s
 
@@ -99,5 +99,5 @@ jobDropped s = droppedFrom (paperWidth s) 0 0 (commands s)
 abbrev pub noDropped : Dropped
 noDropped = record { place = 0; reason = 0 }
 
-unfoldable pub padded : {A : Type 0} → A → List A → List A
-padded none l = l ++ replicate (mostCommands - length l) none
+unfoldable pub filledUp : {A : Type 0} → A → List A → List A
+filledUp none l = l ++ replicate (mostCommands - length l) none

@@ -15,7 +15,8 @@ use Rattle.colour.specs.Choice.{if_then_else_}
 use Rattle.colour.specs.declared.RGBA.{RGBA}
 use Rattle.dots.specs.Dots.{change, within}
 use Rattle.entries.specs.declared.Entry.{Entry}
-use Rattle.entries.specs.Entries.{goodEntry, entryRows, Placed}
+use Rattle.entries.specs.Entries.{goodEntry}
+use Rattle.entries.specs.Steps.{entryRows, Placed}
 use Rattle.plan.specs.Plan.{noEntry}
 use Rattle.rows.specs.declared.RowAnswer.{RowAnswer}
 use Rattle.rows.specs.Rows.{goodSizes, goodEntries, goodPlan, refusalOf, rowRefusal, entriesOn, rowOn, ink, listGiven, listWritten, firsts}

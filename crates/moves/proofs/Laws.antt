@@ -56,13 +56,9 @@ lowered-none by paper l = change-same _ _ _ _ l (λ i c. at i (place 0 by i))
     at i (inside u v) = rw (within-yes 0 (by + 0) i u (omega arith), within-yes 0 by i u v, lt-ltb i by v)
     at i (past u v) = rw (within-high 0 (by + 0) i (omega arith), within-high 0 by i v)
 
--- ---- widened
+-- ---- padded
 
 module _ (w h wide left : ℕ) (paper : RGBA) (l : List ℕ) where
-  pub length-widened : length (paddedOn w h wide left paper l) ≡ length l
-  unfolding paddedOn
-  length-widened = length-change _ _ l
-
   -- the dot at column c, row r: one of the paper before the row, one that was moved, one of the paper after it
   pub padded-at : (c r : ℕ) → c < wide → r < h → wide * h * 4 ≤ length l → dotAt (paddedOn w h wide left paper l) (r * wide + c) ≡ paddedAt w left paper l c r
   unfolding paddedOn

@@ -9,7 +9,7 @@ use Rattle.numbers.specs.Numbers.{done}
 use Rattle.colour.specs.Choice.{if_then_else_}
 use Rattle.colour.proofs.Tests.{and-both, neither}
 use Rattle.thermal_image.specs.declared.ThermalImage.{ThermalImage}
-use Rattle.refusals.specs.Refusals.{first, unsound, growRefusal}
+use Rattle.refusals.specs.Refusals.{first, canvasRefusal, growRefusal}
 use Rattle.refusals.proofs.Codes.{first-none, first-done, room-done, side-done, off-done, across-done, empty-done}
 use Rattle.places.specs.Places.{cropped, cropWide, cropTall, resultRefusal, placeRefusal, tallAfter, flips, imageTall, flipTall, flipRefusal, borderRefusal}
 use Rattle.places.specs.Steps.{Ready}
@@ -62,7 +62,7 @@ first-both : (a b : ℕ) → a ≡ done → b ≡ done → first a b ≡ done
 first-both a b e f = sym (first-none a b e) ∙ f
 
 -- a canvas with more rows that 8 and 1 let pass may grow to them
-grows-to : (t : ThermalImage) (rows n : ℕ) → t .height ≤ rows → unsound (t .width) (t .height) n ≡ done → resultRefusal (t .width) rows n ≡ done → growRefusal (t .width) (t .height) rows n ≡ done
+grows-to : (t : ThermalImage) (rows n : ℕ) → t .height ≤ rows → canvasRefusal (t .width) (t .height) n ≡ done → resultRefusal (t .width) rows n ≡ done → growRefusal (t .width) (t .height) rows n ≡ done
 unfolding growRefusal resultRefusal
 grows-to t rows n h e f =
     let a = first-done _ _ f in

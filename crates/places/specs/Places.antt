@@ -4,7 +4,7 @@ use mathlib.Core.Bool.{Bool, not, _&&_, _||_}
 use lib.Dec.{ltb, leb, eqb}
 use Rattle.numbers.specs.Numbers.{done, wrongLength, tooMany, short}
 use Rattle.colour.specs.Choice.{if_then_else_}
-use Rattle.refusals.specs.Refusals.{first, unsound, tallRefusal, roomRefusal, sideRefusal, offRefusal, acrossRefusal, emptyRefusal}
+use Rattle.refusals.specs.Refusals.{first, canvasRefusal, tallRefusal, roomRefusal, sideRefusal, offRefusal, acrossRefusal, emptyRefusal}
 use Rattle.thermal_image.specs.declared.ThermalImage.{ThermalImage}
 
 -- ---- cropping
@@ -61,7 +61,7 @@ resultRefusal W rows n = first (tallRefusal rows) (roomRefusal W rows n)
 -- the put's order, 9, 3, 2, 6, 5, 7, 8, 1, for a canvas that comes to have that many rows
 unfoldable pub placeRefusal : ThermalImage → ℕ → ℕ → ℕ → ℕ → ℕ → ℕ → ℕ → ℕ
 placeRefusal t x y w h bytes rows n =
-    first (unsound (t .width) (t .height) n)
+    first (canvasRefusal (t .width) (t .height) n)
     (first (lengthRefusal bytes)
     (first (sideRefusal w h)
     (first (manyRefusal w h (bytes / 4))
@@ -84,7 +84,7 @@ imageRefusal upside t x y w h bytes n = placeRefusal t x y w h bytes (imageTall 
 -- a flip: 9, 10, 5, 8, 1
 unfoldable pub flipRefusal : ThermalImage → ℕ → ℕ → ℕ → ℕ → ℕ → ℕ
 flipRefusal t x y w h n =
-    first (unsound (t .width) (t .height) n)
+    first (canvasRefusal (t .width) (t .height) n)
     (first (emptyRefusal w h)
     (first (acrossRefusal (t .width) x w)
     (resultRefusal (t .width) (flipTall t y h) n)))

@@ -12,12 +12,12 @@ use numbers::TOO_MANY;
 use numbers::TOO_TALL;
 use numbers::WRONG_LENGTH;
 use refusals::across_refusal;
+use refusals::canvas_refusal;
 use refusals::empty_refusal;
 use refusals::first;
 use refusals::off_refusal;
 use refusals::room_refusal;
 use refusals::side_refusal;
-use refusals::unsound;
 use thermal_image::ThermalImage;
 
 fn length_refusal(bytes: usize) -> u8
@@ -83,7 +83,7 @@ pub fn place_refusal(
     let place = first(off_refusal(t.width, t.height, t.auto_grow, x, y), end);
     let many = first(many_refusal(w, h, bytes / 4), place);
     let pixels = first(length_refusal(bytes), first(side_refusal(w, h), many));
-    first(unsound(t.width, t.height, n), pixels)
+    first(canvas_refusal(t.width, t.height, n), pixels)
 }
 
 // Of w·h equal pixels none is missing, and there are not too many.
@@ -95,7 +95,7 @@ pub fn rect_refusal(t: ThermalImage, x: u32, y: u32, w: u32, h: u32, rows: usize
         result_refusal(t.width, rows, n),
     );
     first(
-        unsound(t.width, t.height, n),
+        canvas_refusal(t.width, t.height, n),
         first(side_refusal(w, h), place),
     )
 }
@@ -108,7 +108,7 @@ pub fn flip_refusal(t: ThermalImage, x: u32, y: u32, w: u32, h: u32, n: usize) -
         result_refusal(t.width, flip_tall(t, y, h), n),
     );
     first(
-        unsound(t.width, t.height, n),
+        canvas_refusal(t.width, t.height, n),
         first(empty_refusal(w, h), place),
     )
 }

@@ -17,13 +17,13 @@ use Rattle.job.specs.declared.commands.Command.{Command}
 use Rattle.job.specs.declared.commands.Command.the-variants.{Rectangle, Image, Margin, Flip}
 use Rattle.job.specs.Records.{recordAt}
 use Rattle.job.specs.Commands.{rectangleKind, imageKind, marginKind, flipKind, flipSize, soundCommand, commandsStart, paperWidth, paperColor, commandAt, commands}
-use Rattle.job.specs.Dropping.{reasonOf, heightAfter, kept, padded}
+use Rattle.job.specs.Dropping.{reasonOf, heightAfter, kept, filledUp}
 use Rattle.job.proofs.Walk.{rest, rest-record, rest-end, Good, Left, left-start, left-sound, left-next, left-bad, Looked, looked-start, looked-few, looked-kept, looked-dropped, looked-end}
 use Rattle.entries.specs.declared.Entry.{Entry}
 use Rattle.plan.specs.declared.Plan.{Plan}
 use Rattle.entries.specs.Entries.{rectangleEntry, imageEntry}
 use Rattle.plan.specs.Plan.{margins, entriesOf, isFlip, hasFlip, planWith, planOf}
-use Rattle.plan.specs.Steps.{planned, stepped, RoomForOne}
+use Rattle.plan.specs.Steps.{planned, stepped, RoomForCommand}
 use Rattle.plan.proofs.Listed.{lower-none, entries-more, entries-margin, entries-few, Low, low-none, low-get, low-push, low-down, push-with, drop-with, shift-with}
 
 -- ---- a command that is kept, on the record
@@ -88,8 +88,8 @@ module _ (s : List ℕ) (p : Plan) (k at : ℕ) (g : Going s p k at) where
     pub going-few : k < 64
     going-few = looked-few s k at (g .H) (g .ks) (g .ds) (g .looked) e refl
 
-    pub going-ready : RoomForOne p
-    unfolding padded
+    pub going-ready : RoomForCommand p
+    unfolding filledUp
     going-ready =
         let h = going-few in
         let a = g .looked .all in

@@ -61,12 +61,14 @@ stepped p k c = if kept (p .width) (p .height) c then planned p c else leftOut p
 
 -- ---- when a step may be taken
 
-pub record RoomFor (p : Plan) (m : ℕ) : Type 0 where
+-- a margin of m rows
+pub record RoomForRows (p : Plan) (m : ℕ) : Type 0 where
   pub few : p .count ≤ mostCommands
   pub tall : p .height + m ≤ limit
   pub low : (i : ℕ) → i < p .count → getD (p .entries) i noEntry .y ≤ p .height
 
-pub record RoomForOne (p : Plan) : Type 0 where
+-- one command more, kept or dropped
+pub record RoomForCommand (p : Plan) : Type 0 where
   pub entry : p .count < mostCommands
   pub drop : p .«dropped_count» < mostCommands
   pub tall : p .height ≤ limit

@@ -2,7 +2,7 @@
 ghost use mathlib.Core.Path.{_≡_};
 ghost use Prim.Native.Nat.{_+_, _<_, _≤_};
 ghost use Rattle.numbers.specs.Numbers.{limit};
-ghost use Rattle.plan.specs.Steps.{pushed, shifted, leftOut, stepped, RoomFor, RoomForOne};
+ghost use Rattle.plan.specs.Steps.{pushed, shifted, leftOut, stepped, RoomForRows, RoomForCommand};
 use super::Plan;
 use entries::Entry;
 use job::Command;
@@ -36,7 +36,7 @@ fn leave_out(plan: Plan, place: u32, reason: u8) -> Plan
 
 // A margin: every entry so far goes down by m.
 fn shift(plan: Plan, m: u32) -> Plan
-    requires { ⌜ RoomFor plan m ⌝ }
+    requires { ⌜ RoomForRows plan m ⌝ }
     ensures { λ r. ⌜ r ≡ shifted plan m ⌝ }
 {
     let mut p = plan;
@@ -53,7 +53,7 @@ fn shift(plan: Plan, m: u32) -> Plan
 }
 
 pub(crate) fn step(p: Plan, k: u32, c: Command) -> Plan
-    requires { ⌜ RoomForOne p ⌝ }
+    requires { ⌜ RoomForCommand p ⌝ }
     ensures { λ r. ⌜ r ≡ stepped p k c ⌝ }
 {
     let why = job::command_reason(p.width, p.height, c);

@@ -8,7 +8,7 @@ use borrow.Author.Tests.{ltb-false, leb-false, eqb-true, eqb-false, lt-ltb, le-l
 use Rattle.numbers.specs.Numbers.{limit, done, badCanvas}
 use Rattle.colour.specs.Choice.{if_then_else_}
 use Rattle.colour.proofs.Tests.{neither}
-use Rattle.refusals.specs.Refusals.{first, unsound, tallRefusal, wideRefusal, roomRefusal, rgbRoomRefusal, sideRefusal, offRefusal, acrossRefusal, emptyRefusal, rowsOf, growRefusal, marginRefusal, widthRefusal, widenRefusal, outRefusal, rgbRefusal}
+use Rattle.refusals.specs.Refusals.{first, canvasRefusal, tallRefusal, wideRefusal, roomRefusal, rgbRoomRefusal, sideRefusal, offRefusal, acrossRefusal, emptyRefusal, rowsOf, growRefusal, marginRefusal, widthRefusal, widenRefusal, outRefusal, rgbRefusal}
 
 -- ---- one number after another
 
@@ -111,18 +111,18 @@ flat-test w h = go (eqb w 0)
 
 -- the last tests, by the rows that the code works out
 module _ (w h n : ℕ) (a : w ≤ limit) (b : h ≤ limit) {r : ℕ} (e : r ≡ rowsOf w h) where
-  pub unsound-flat : r < h → badCanvas ≡ unsound w h n
-  unfolding unsound
-  unsound-flat l = rw (le-ltb _ _ a, le-ltb _ _ b, ← flat-test w h, ← e, lt-ltb _ _ l)
+  pub canvas-refusal-flat : r < h → badCanvas ≡ canvasRefusal w h n
+  unfolding canvasRefusal
+  canvas-refusal-flat l = rw (le-ltb _ _ a, le-ltb _ _ b, ← flat-test w h, ← e, lt-ltb _ _ l)
 
-  pub unsound-short : h ≤ r → n / 4 < w * h → badCanvas ≡ unsound w h n
-  unfolding unsound
-  unsound-short l s =
+  pub canvas-refusal-short : h ≤ r → n / 4 < w * h → badCanvas ≡ canvasRefusal w h n
+  unfolding canvasRefusal
+  canvas-refusal-short l s =
       rw (le-ltb _ _ a, le-ltb _ _ b, ← flat-test w h, ← e, le-ltb _ _ l, lt-ltb n (4 * (w * h)) (omega arith))
 
-  pub unsound-none : h ≤ r → w * h ≤ n / 4 → done ≡ unsound w h n
-  unfolding unsound
-  unsound-none l s =
+  pub canvas-refusal-none : h ≤ r → w * h ≤ n / 4 → done ≡ canvasRefusal w h n
+  unfolding canvasRefusal
+  canvas-refusal-none l s =
       rw (le-ltb _ _ a, le-ltb _ _ b, ← flat-test w h, ← e, le-ltb _ _ l, le-ltb n (4 * (w * h)) (omega arith))
 
 pub record Sound (W H n : ℕ) : Type 0 where
@@ -131,8 +131,8 @@ pub record Sound (W H n : ℕ) : Type 0 where
   pub flat : W ≡ 0 → H ≡ 0
   pub room : 4 * (W * H) ≤ n
 
-pub sound : (W H n : ℕ) → unsound W H n ≡ done → Sound W H n
-unfolding unsound
+pub sound : (W H n : ℕ) → canvasRefusal W H n ≡ done → Sound W H n
+unfolding canvasRefusal
 sound W H n e =
     let a = neither (ltb limit W || ltb limit H || (eqb W 0 && ltb 0 H)) (ltb n (4 * (W * H))) (passed _ (omega arith) e) in
     let b = neither (ltb limit W || ltb limit H) (eqb W 0 && ltb 0 H) (a .0) in

@@ -9,7 +9,7 @@ use Rattle.refusals.proofs.drawn.side_refusal.Reads as side-refusal
 use Rattle.refusals.proofs.drawn.off_refusal.Reads as off-refusal
 use Rattle.refusals.proofs.drawn.across_refusal.Reads as across-refusal
 use Rattle.refusals.proofs.drawn.empty_refusal.Reads as empty-refusal
-use Rattle.refusals.proofs.unsound.Reads as unsound
+use Rattle.refusals.proofs.canvas_refusal.Reads as canvas-refusal
 use Rattle.refusals.proofs.grow_refusal.Reads as grow-refusal
 use Rattle.refusals.proofs.margin_refusal.Reads as margin-refusal
 use Rattle.refusals.proofs.width_refusal.Reads as width-refusal
@@ -44,8 +44,8 @@ across-refusal-one k a x y e f p q = both p q
 empty-refusal-one : OneAnswer empty-refusal.Post
 empty-refusal-one k a x y e f p q = both p q
 
-unsound-one : OneAnswer unsound.Post
-unsound-one k a x y e f p q = both p q
+canvas-refusal-one : OneAnswer canvas-refusal.Post
+canvas-refusal-one k a x y e f p q = both p q
 
 grow-refusal-one : OneAnswer grow-refusal.Post
 grow-refusal-one k a x y e f p q = both p q

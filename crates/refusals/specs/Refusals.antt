@@ -16,8 +16,8 @@ rowsOf W H = if eqb W 0 then 0 else H
 -- ---- the numbers
 
 -- 9: W or H above the limit, W = 0 with H > 0, or a buffer under 4·W·H bytes
-unfoldable pub unsound : ℕ → ℕ → ℕ → ℕ
-unsound W H n = if ltb limit W || ltb limit H || (eqb W 0 && ltb 0 H) || ltb n (4 * (W * H)) then badCanvas else done
+unfoldable pub canvasRefusal : ℕ → ℕ → ℕ → ℕ
+canvasRefusal W H n = if ltb limit W || ltb limit H || (eqb W 0 && ltb 0 H) || ltb n (4 * (W * H)) then badCanvas else done
 
 -- 8: a height above the limit
 unfoldable pub tallRefusal : ℕ → ℕ
@@ -57,15 +57,15 @@ emptyRefusal w h = if eqb w 0 || eqb h 0 then emptyArea else done
 
 -- growing to a height: 9, 8, 1
 unfoldable pub growRefusal : ℕ → ℕ → ℕ → ℕ → ℕ
-growRefusal W H height n = first (first (unsound W H n) (tallRefusal height)) (roomRefusal W (max H height) n)
+growRefusal W H height n = first (first (canvasRefusal W H n) (tallRefusal height)) (roomRefusal W (max H height) n)
 
 -- a top margin: 9, 8, 1
 unfoldable pub marginRefusal : ℕ → ℕ → ℕ → ℕ → ℕ
-marginRefusal W H rows n = first (first (unsound W H n) (tallRefusal (H + rows))) (roomRefusal W (H + rows) n)
+marginRefusal W H rows n = first (first (canvasRefusal W H n) (tallRefusal (H + rows))) (roomRefusal W (H + rows) n)
 
 -- setting the width: 9, 2. 1 cannot arise, since no byte is asked for
 unfoldable pub widthRefusal : ℕ → ℕ → ℕ → ℕ → ℕ
-widthRefusal W H new n = first (unsound W H n) (wideRefusal new)
+widthRefusal W H new n = first (canvasRefusal W H n) (wideRefusal new)
 
 -- widening: 9, 2, 1. A smaller width is done and changes nothing
 unfoldable pub widenRefusal : ℕ → ℕ → ℕ → ℕ → ℕ
@@ -73,8 +73,8 @@ widenRefusal W H new n = first (widthRefusal W H new n) (if leb new W then done 
 
 -- writing the dots to a second buffer, of `room` bytes: 9, 1
 unfoldable pub outRefusal : ℕ → ℕ → ℕ → ℕ → ℕ
-outRefusal W H n room = first (unsound W H n) (roomRefusal W H room)
+outRefusal W H n room = first (canvasRefusal W H n) (roomRefusal W H room)
 
 -- RGB output: 9, 1
 unfoldable pub rgbRefusal : ℕ → ℕ → ℕ → ℕ → ℕ
-rgbRefusal W H n room = first (unsound W H n) (rgbRoomRefusal W H room)
+rgbRefusal W H n room = first (canvasRefusal W H n) (rgbRoomRefusal W H room)

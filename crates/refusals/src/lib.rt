@@ -4,7 +4,7 @@
 mod drawn;
 
 ghost use mathlib.Core.Path.{_≡_};
-ghost use Rattle.refusals.specs.Refusals.{first, rowsOf, unsound, tallRefusal, wideRefusal, roomRefusal, rgbRoomRefusal, growRefusal, marginRefusal, widenRefusal, widthRefusal, outRefusal, rgbRefusal};
+ghost use Rattle.refusals.specs.Refusals.{first, rowsOf, canvasRefusal, tallRefusal, wideRefusal, roomRefusal, rgbRoomRefusal, growRefusal, marginRefusal, widenRefusal, widthRefusal, outRefusal, rgbRefusal};
 pub use drawn::across_refusal;
 pub use drawn::empty_refusal;
 pub use drawn::off_refusal;
@@ -72,8 +72,8 @@ fn rgb_room_refusal(w: u32, h: u32, n: usize) -> u8
     DONE
 }
 
-pub fn unsound(w: u32, h: u32, n: usize) -> u8
-    ensures { λ r. ⌜ r ≡ unsound w h n ⌝ }
+pub fn canvas_refusal(w: u32, h: u32, n: usize) -> u8
+    ensures { λ r. ⌜ r ≡ canvasRefusal w h n ⌝ }
 {
     if w > LIMIT {
         return BAD_CANVAS;
@@ -93,7 +93,7 @@ pub fn unsound(w: u32, h: u32, n: usize) -> u8
 pub fn grow_refusal(w: u32, h: u32, height: u32, n: usize) -> u8
     ensures { λ r. ⌜ r ≡ growRefusal w h height n ⌝ }
 {
-    let number = first(unsound(w, h, n), tall_refusal(height as usize));
+    let number = first(canvas_refusal(w, h, n), tall_refusal(height as usize));
     first(number, room_refusal(w, larger_side(h, height), n))
 }
 
@@ -101,7 +101,10 @@ pub fn grow_refusal(w: u32, h: u32, height: u32, n: usize) -> u8
 pub fn margin_refusal(w: u32, h: u32, rows: u32, n: usize) -> u8
     ensures { λ r. ⌜ r ≡ marginRefusal w h rows n ⌝ }
 {
-    let number = first(unsound(w, h, n), tall_refusal(h as usize + rows as usize));
+    let number = first(
+        canvas_refusal(w, h, n),
+        tall_refusal(h as usize + rows as usize),
+    );
     if number != DONE {
         return number;
     }
@@ -111,7 +114,7 @@ pub fn margin_refusal(w: u32, h: u32, rows: u32, n: usize) -> u8
 pub fn width_refusal(w: u32, h: u32, width: u32, n: usize) -> u8
     ensures { λ r. ⌜ r ≡ widthRefusal w h width n ⌝ }
 {
-    first(unsound(w, h, n), wide_refusal(width))
+    first(canvas_refusal(w, h, n), wide_refusal(width))
 }
 
 pub fn widen_refusal(w: u32, h: u32, width: u32, n: usize) -> u8
@@ -127,11 +130,11 @@ pub fn widen_refusal(w: u32, h: u32, width: u32, n: usize) -> u8
 pub fn out_refusal(w: u32, h: u32, n: usize, room: usize) -> u8
     ensures { λ r. ⌜ r ≡ outRefusal w h n room ⌝ }
 {
-    first(unsound(w, h, n), room_refusal(w, h, room))
+    first(canvas_refusal(w, h, n), room_refusal(w, h, room))
 }
 
 pub fn rgb_refusal(w: u32, h: u32, n: usize, room: usize) -> u8
     ensures { λ r. ⌜ r ≡ rgbRefusal w h n room ⌝ }
 {
-    first(unsound(w, h, n), rgb_room_refusal(w, h, room))
+    first(canvas_refusal(w, h, n), rgb_room_refusal(w, h, room))
 }

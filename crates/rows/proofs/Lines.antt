@@ -13,7 +13,8 @@ use Rattle.dots.proofs.Laws.{length-change, change-idle, change-picked, change-
 use Rattle.areas.specs.Areas.{inArea, areaOn}
 use Rattle.areas.proofs.Laws.{at-column, in-area, not-in-area}
 use Rattle.entries.specs.declared.Entry.{Entry}
-use Rattle.entries.specs.Entries.{entryOn, entryRows}
+use Rattle.entries.specs.Entries.{entryOn}
+use Rattle.entries.specs.Steps.{entryRows}
 use Rattle.plan.specs.Plan.{noEntry}
 use Rattle.rows.specs.Rows.{entriesOn, rowOn, rowsOn, firsts, hasInk, ink}
 use Rattle.rows.specs.Steps.{bandOn}

@@ -18,11 +18,12 @@ use Rattle.moves.specs.Moves.{loweredOn}
 use Rattle.job.specs.declared.commands.Command.{Command}
 use Rattle.job.specs.declared.commands.Command.the-variants.{Rectangle, Image, Margin, Flip}
 use Rattle.job.specs.Commands.{paperWidth, paperColor}
-use Rattle.job.specs.Dropping.{reasonOf, heightAfter, next, jobRefusal, jobHeight, jobDropped}
+use Rattle.job.specs.Dropping.{reasonOf, heightAfter, nextHeight, jobRefusal, jobHeight, jobDropped}
 use Rattle.job.proofs.Soundness.{sane-rectangle, sane-image, Held}
 use Rattle.job.proofs.Reasons.{rectangle-kept, stretched-kept}
 use Rattle.entries.specs.declared.Entry.{Entry}
-use Rattle.entries.specs.Entries.{rectangleEntry, imageEntry, goodEntry, entryRows, Placed}
+use Rattle.entries.specs.Entries.{rectangleEntry, imageEntry, goodEntry}
+use Rattle.entries.specs.Steps.{entryRows, Placed}
 use Rattle.entries.proofs.Good.{rectangle-good, image-good}
 use Rattle.refusals.specs.Refusals.{first, roomRefusal}
 use Rattle.thermal_image.specs.Canvas.{canvas, written, papered}
@@ -102,8 +103,8 @@ module _ (s : List ℕ) (W : ℕ) (paper : RGBA) (H : ℕ) (l : List ℕ) {r : �
   flip-obeyed x y w h g e f = (g, f ∙ rw e refl)
 
 module _ (s : List ℕ) (W : ℕ) (paper : RGBA) (H : ℕ) (l : List ℕ) (d : Command) {why : ℕ} (e : why ≡ reasonOf W H d) where
-  pub step-out : (why ≡ done → ⊥) → (H ≡ next W H d) × (l ≡ steppedOn s W paper H d l)
-  unfolding next steppedOn
+  pub step-out : (why ≡ done → ⊥) → (H ≡ nextHeight W H d) × (l ≡ steppedOn s W paper H d l)
+  unfolding nextHeight steppedOn
   step-out n = rw (ne-eqb (reasonOf W H d) done (λ z. n (e ∙ z))) (refl, refl)
 
   module _ (z : why ≡ done) where
@@ -111,15 +112,15 @@ module _ (s : List ℕ) (W : ℕ) (paper : RGBA) (H : ℕ) (l : List ℕ) (d : C
     kept-of = sym e ∙ z
 
     -- the room that was asked for is that of the height after the command
-    kept-room : {n : ℕ} → Room W (next W H d) n → Room W (heightAfter H d) n
-    unfolding next
+    kept-room : {n : ℕ} → Room W (nextHeight W H d) n → Room W (heightAfter H d) n
+    unfolding nextHeight
     kept-room r = rw (eq-eqb (reasonOf W H d) done kept-of) at r
 
-    pub step-in : {d' : Command} → d ≡ d' → {h : ℕ} {m : List ℕ} → (h ≡ heightAfter H d') × (m ≡ obeyedOn s W paper H d' l) → (h ≡ next W H d) × (m ≡ steppedOn s W paper H d l)
-    unfolding next steppedOn
+    pub step-in : {d' : Command} → d ≡ d' → {h : ℕ} {m : List ℕ} → (h ≡ heightAfter H d') × (m ≡ obeyedOn s W paper H d' l) → (h ≡ nextHeight W H d) × (m ≡ steppedOn s W paper H d l)
+    unfolding nextHeight steppedOn
     step-in q g = rw (eq-eqb (reasonOf W H d) done kept-of, q) g
 
-    module _ {n : ℕ} (r : Room W (next W H d) n) where
+    module _ {n : ℕ} (r : Room W (nextHeight W H d) n) where
       -- what an entry asks for
       pub rectangle-asks : {x y w h mode : ℕ} {c : RGBA} → d ≡ Rectangle x y w h c mode → Held s d → {f : Entry} → f ≡ rectangleEntry W x y w h c mode
           → Room W (max H (f .y + f .h)) n × (goodEntry W limit (length s) f ≡ true)

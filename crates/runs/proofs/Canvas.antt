@@ -24,7 +24,8 @@ use Rattle.job.specs.declared.commands.Command.{Command}
 use Rattle.job.specs.declared.commands.Command.the-variants.{Rectangle, Image, Margin, Flip}
 use Rattle.job.specs.Dropping.{reasonOf, heightAfter}
 use Rattle.entries.specs.declared.Entry.{Entry}
-use Rattle.entries.specs.Entries.{rectangleEntry, imageEntry, entryOn, entryRows}
+use Rattle.entries.specs.Entries.{rectangleEntry, imageEntry, entryOn}
+use Rattle.entries.specs.Steps.{entryRows}
 use Rattle.thermal_image.specs.Canvas.{papered}
 use Rattle.thermal_image.proofs.Paper.{length-papered, papered-kept, papered-past, papered-new}
 use Rattle.runs.specs.Pictures.{Picture, withImage, withMargin, withMirror, after, shown}

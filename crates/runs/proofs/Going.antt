@@ -16,10 +16,10 @@ use Rattle.job.specs.declared.dropping.Dropped.{Dropped}
 use Rattle.job.specs.declared.commands.Command.{Command}
 use Rattle.job.specs.Records.{recordAt}
 use Rattle.job.specs.Commands.{soundCommand, commandsStart, paperWidth, paperColor, commandAt, commands}
-use Rattle.job.specs.Dropping.{mostCommands, reasonOf, heightAfter, kept, next, heightFrom, jobHeight, jobDropped, noDropped}
+use Rattle.job.specs.Dropping.{mostCommands, reasonOf, heightAfter, kept, nextHeight, heightFrom, jobHeight, jobDropped, noDropped}
 use Rattle.job.proofs.Found.{found}
 use Rattle.job.proofs.Soundness.{Held, held}
-use Rattle.job.proofs.Folds.{keeps, keeps-fits, height-more, padded-more}
+use Rattle.job.proofs.Folds.{keeps, keeps-fits, height-more, filled-more}
 use Rattle.job.proofs.Walk.{rest, rest-record, Good, left-sound, left-bad, Looked, looked-start, looked-few, looked-kept, looked-dropped, looked-end}
 use Rattle.runs.specs.declared.survey.Survey.{Survey}
 use Rattle.runs.specs.Pictures.{Picture, after, afterAll, shown}
@@ -42,7 +42,7 @@ surveyed-start s g e = record { H = 0; ks = []; ds = []; looked = looked-start s
 
 -- one command more on the list
 list-more : (H : ℕ) (ds : List Dropped) (k why : ℕ) → length ds < mostCommands → leftOut (surveyWith H ds) k why ≡ surveyWith H (ds ++ (record { place = k; reason = why } ∷ []))
-list-more H ds k why h = rw (padded-more noDropped (record { place = k; reason = why }) ds h, ← length-append ds (record { place = k; reason = why } ∷ [])) refl
+list-more H ds k why h = rw (filled-more noDropped (record { place = k; reason = why }) ds h, ← length-append ds (record { place = k; reason = why } ∷ [])) refl
 
 module _ (s : List ℕ) (v : Survey) (k at : ℕ) (g : Surveyed s v k at) where
   pub surveyed-bad : Bad ≡ recordAt s at → ⊥
@@ -124,29 +124,29 @@ module _ (s l b : List ℕ) (H at : ℕ) (room : paperWidth s * jobHeight s * 4 
 
     module _ {c : Command} (q : c ≡ commandAt s kind st n) where
       -- no height on the way is above the last
-      reaches : next (paperWidth s) H c ≤ jobHeight s
+      reaches : nextHeight (paperWidth s) H c ≤ jobHeight s
       unfolding heightFrom
       reaches =
           let W : ℕ = paperWidth s in
           let r : rest s at ≡ c ∷ rest s nx = rest-record s at e ∙ rw (← q) refl in
           let h : heightFrom W H (c ∷ rest s nx) ≡ jobHeight s = rw r at (g .looked .height) in
-          omega (arith, height-more W (next W H c) (rest s nx), h)
+          omega (arith, height-more W (nextHeight W H c) (rest s nx), h)
 
-      fits : paperWidth s * next (paperWidth s) H c * 4 ≤ length l
+      fits : paperWidth s * nextHeight (paperWidth s) H c * 4 ≤ length l
       fits = omega (arith, mul-le-mul-left (paperWidth s) reaches)
 
-      tall : next (paperWidth s) H c ≤ limit
+      tall : nextHeight (paperWidth s) H c ≤ limit
       unfolding jobHeight
       tall = omega (arith, reaches, keeps-fits (keeps (paperWidth s) 0 (commands s)) (omega arith))
 
-      room-here : Room (paperWidth s) (next (paperWidth s) H c) (length b)
+      room-here : Room (paperWidth s) (nextHeight (paperWidth s) H c) (length b)
       room-here = record { some = good .some; wide = good .wide; tall = tall; room = rw (g .bytes, length-shown _ _ _ l) fits }
 
       drawing-held : Held s c
       drawing-held = let f = found s at e in rw q (held s kind st n (omega (arith, f .whole, f .fits)) drawing-sound)
 
-      one-more : {b' : List ℕ} → b' ≡ steppedOn s (paperWidth s) (paperColor s) H c b → Drawing s l b' (next (paperWidth s) H c) nx
-      unfolding steppedOn next
+      one-more : {b' : List ℕ} → b' ≡ steppedOn s (paperWidth s) (paperColor s) H c b → Drawing s l b' (nextHeight (paperWidth s) H c) nx
+      unfolding steppedOn nextHeight
       one-more {b'} r = by (kept (paperWidth s) H c) refl
         where
           by : (t : Bool) → kept (paperWidth s) H c ≡ t → Drawing s l b' (if t then heightAfter H c else H) nx
@@ -177,10 +177,10 @@ module _ (s l b : List ℕ) (H at : ℕ) (room : paperWidth s * jobHeight s * 4 
 
       -- the width and the paper that were read
       module _ {W : ℕ} (w : W ≡ paperWidth s) where
-        pub drawing-room : Room W (next W H c) (length b) × (H ≤ limit) × Held s c
+        pub drawing-room : Room W (nextHeight W H c) (length b) × (H ≤ limit) × Held s c
         drawing-room = (rw w room-here, g .looked .fits, drawing-held)
 
-        pub drawing-next : {paper : RGBA} → paper ≡ paperColor s → {r : ℕ} {b' : List ℕ} → r ≡ next W H c → b' ≡ steppedOn s W paper H c b → Drawing s l b' r nx
+        pub drawing-next : {paper : RGBA} → paper ≡ paperColor s → {r : ℕ} {b' : List ℕ} → r ≡ nextHeight W H c → b' ≡ steppedOn s W paper H c b → Drawing s l b' r nx
         drawing-next p {r} q e =
-            let h : r ≡ next (paperWidth s) H c = q ∙ rw w refl in
+            let h : r ≡ nextHeight (paperWidth s) H c = q ∙ rw w refl in
             rw h (one-more (e ∙ rw (w, p) refl))

@@ -11,16 +11,17 @@ use Rattle.moves.specs.Moves.{loweredOn}
 use Rattle.job.specs.declared.dropping.Dropped.{Dropped}
 use Rattle.job.specs.declared.commands.Command.{Command}
 use Rattle.job.specs.declared.commands.Command.the-variants.{Rectangle, Image, Margin, Flip}
-use Rattle.job.specs.Dropping.{reasonOf, heightAfter, kept, noDropped, padded}
+use Rattle.job.specs.Dropping.{reasonOf, heightAfter, kept, noDropped, filledUp}
 use Rattle.entries.specs.declared.Entry.{Entry}
-use Rattle.entries.specs.Entries.{rectangleEntry, imageEntry, entryRows}
+use Rattle.entries.specs.Entries.{rectangleEntry, imageEntry}
+use Rattle.entries.specs.Steps.{entryRows}
 use Rattle.thermal_image.specs.Canvas.{papered}
 use Rattle.runs.specs.declared.survey.Survey.{Survey}
 
 -- ---- the survey: the height and the dropped list so far
 
 abbrev pub surveyWith : ℕ → List Dropped → Survey
-surveyWith H ds = record { height = H; «dropped_count» = length ds; dropped = padded noDropped ds }
+surveyWith H ds = record { height = H; «dropped_count» = length ds; dropped = filledUp noDropped ds }
 
 abbrev pub leftOut : Survey → ℕ → ℕ → Survey
 leftOut v k why = record {

@@ -6,7 +6,7 @@ ghost use Prim.Native.Nat.{_+_, _*_, _≤_, max};
 ghost use lib.ListN.{length};
 ghost use Rattle.numbers.specs.Numbers.{limit, done};
 ghost use Rattle.job.specs.Commands.{paperWidth};
-ghost use Rattle.job.specs.Dropping.{jobRefusal, jobHeight, next};
+ghost use Rattle.job.specs.Dropping.{jobRefusal, jobHeight, nextHeight};
 ghost use Rattle.job.proofs.Soundness.{Held};
 ghost use Rattle.entries.specs.Entries.{goodEntry};
 ghost use Rattle.runs.specs.Pictures.{shown};
@@ -50,8 +50,8 @@ fn place(buf: &mut [u8], width: u32, height: u32, paper: RGBA, e: Entry, s: &[u8
 }
 
 fn obey(buf: &mut [u8], width: u32, height: u32, paper: RGBA, c: Command, s: &[u8]) -> u32
-    requires { ⌜ Room width (next width height c) (length (now buf)) × (height ≤ limit) × Held (now s) c ⌝ }
-    ensures { λ r. ⌜ r ≡ next width height c ⌝ }
+    requires { ⌜ Room width (nextHeight width height c) (length (now buf)) × (height ≤ limit) × Held (now s) c ⌝ }
+    ensures { λ r. ⌜ r ≡ nextHeight width height c ⌝ }
     ensures { λ _. ⌜ now (buf .exit) ≡ steppedOn (now (s .entry)) width paper height c (now (buf .entry)) ⌝ }
 {
     if job::command_reason(width, height, c) != DONE {

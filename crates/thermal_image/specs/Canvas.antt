@@ -11,7 +11,7 @@ use Rattle.colour.specs.Colour.{blank, white}
 use Rattle.dots.specs.Dots.{change, within}
 use Rattle.moves.specs.declared.turned.Turn.{Turn}
 use Rattle.moves.specs.Moves.{loweredOn, paddedOn, copiedTo, rgbTo, turnedWide, turnedTall, turnedOn}
-use Rattle.refusals.specs.Refusals.{unsound, wideRefusal, rowsOf, growRefusal, marginRefusal, widenRefusal, widthRefusal, outRefusal, rgbRefusal}
+use Rattle.refusals.specs.Refusals.{canvasRefusal, wideRefusal, rowsOf, growRefusal, marginRefusal, widenRefusal, widthRefusal, outRefusal, rgbRefusal}
 use Rattle.thermal_image.specs.declared.ThermalImage.{ThermalImage}
 use Rattle.thermal_image.specs.declared.Answer.{Answer}
 use Rattle.thermal_image.specs.declared.Copied.{Copied}
@@ -76,10 +76,10 @@ widenedOn t new l =
 -- ---- setting the width empties the canvas (order 9, 2, and 1 cannot arise); `empty` and `reset` give H = 0 and keep W (order 9). No byte is written
 
 unfoldable pub setWidth : ThermalImage → ℕ → ℕ → Answer
-setWidth t W n = answered (widthRefusal (t .width) (t .height) W n) t (sized t W 0)
+setWidth t new n = answered (widthRefusal (t .width) (t .height) new n) t (sized t new 0)
 
 unfoldable pub emptied : ThermalImage → ℕ → Answer
-emptied t n = answered (unsound (t .width) (t .height) n) t (sized t (t .width) 0)
+emptied t n = answered (canvasRefusal (t .width) (t .height) n) t (sized t (t .width) 0)
 
 -- ---- writing to a second buffer, of `room` bytes. Order 9, 1. The canvas's own bytes stay
 
@@ -108,7 +108,7 @@ rgb t n room = rgbAnswer (rgbRefusal (t .width) (t .height) n room) t
 unfoldable pub rgbOn : ThermalImage → List ℕ → List ℕ → List ℕ
 rgbOn t l out = written (rgbRefusal (t .width) (t .height) (length l) (length out)) out (rgbTo (t .width * t .height) l out)
 
--- ---- turned clockwise into the second buffer. For 90 and 270 W and H change places, and H = 0 gives W = H = 0, as no width has no height
+-- ---- rotated clockwise into the second buffer. For 90 and 270 W and H change places, and H = 0 gives W = H = 0, as no width has no height
 
 unfoldable pub rotated : Turn → ThermalImage → ℕ → ℕ → Answer
 rotated by t n room =

@@ -17,12 +17,12 @@ use moves::turn;
 use moves::widen;
 use numbers::DONE;
 use numbers::larger_side;
+use refusals::canvas_refusal;
 use refusals::grow_refusal;
 use refusals::margin_refusal;
 use refusals::out_refusal;
 use refusals::rgb_refusal;
 use refusals::rows_of;
-use refusals::unsound;
 use refusals::wide_refusal;
 use refusals::widen_refusal;
 use refusals::width_refusal;
@@ -192,7 +192,7 @@ impl ThermalImage {
     pub fn empty(self, buf: &[u8]) -> Answer
         ensures { λ r. ⌜ r ≡ emptied self (length (now (buf .entry))) ⌝ }
     {
-        let number = unsound(self.width, self.height, buf.len());
+        let number = canvas_refusal(self.width, self.height, buf.len());
         if number != DONE {
             return Answer {
                 number,

@@ -54,7 +54,8 @@ use Rattle.numbers.specs.Numbers.{limit, done as doneNumber}
 use Rattle.colour.specs.declared.RGBA.{RGBA}
 use Rattle.colour.proofs.RGBA as P
 use Rattle.colour.proofs.RGBA.Laws as P′
-use Rattle.entries.specs.Entries.{goodEntry, entryRows, Placed}
+use Rattle.entries.specs.Entries.{goodEntry}
+use Rattle.entries.specs.Steps.{entryRows, Placed}
 use Rattle.entries.specs.declared.Entry.{Entry}
 use Rattle.entries.proofs.Entry as T
 use Rattle.entries.proofs.Entry.Laws as T′

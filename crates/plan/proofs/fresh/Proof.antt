@@ -1,6 +1,6 @@
 -- `plan::fresh` meets its contract. Assumes nothing.
 use mathlib.Core.Path.{refl}
-use Rattle.job.specs.Dropping.{padded}
+use Rattle.job.specs.Dropping.{filledUp}
 use borrow.Author.Needs.{needs}
 use Rattle.plan.proofs.fresh.Statement.{statement}
 use Rattle.plan.proofs.fresh.Tie as tie
@@ -9,7 +9,7 @@ no-entry-requires : tie.Need-no-entry-requires
 no-entry-requires c κs = search needs
 
 returns : tie.Need-returns
-unfolding padded
+unfolding filledUp
 returns c = rw (c .no-entry .ensures) refl
 
 pub fresh-spec : {M : Type 1} → statement M

@@ -5,8 +5,8 @@ use borrow.Author.Needs.{needs}
 use Rattle.refusals.proofs.grow_refusal.Statement.{statement}
 use Rattle.refusals.proofs.grow_refusal.Tie as tie
 
-unsound-requires : tie.Need-unsound-requires
-unsound-requires c κs = search needs
+canvas-refusal-requires : tie.Need-canvas-refusal-requires
+canvas-refusal-requires c κs = search needs
 
 tall-refusal-requires : tie.Need-tall-refusal-requires
 tall-refusal-requires c κs = search needs
@@ -29,13 +29,13 @@ returns c =
     let l = c .before .before in
     let f = l .before in
     let h = f .before in
-    c .first2 .ensures ∙ rw (c .before .room-refusal .ensures, l .larger-side .ensures, f .first .ensures, h .tall-refusal .ensures, h .before .unsound .ensures)
+    c .first2 .ensures ∙ rw (c .before .room-refusal .ensures, l .larger-side .ensures, f .first .ensures, h .tall-refusal .ensures, h .before .canvas-refusal .ensures)
 
 pub grow-refusal-spec : {M : Type 1} → statement M
 grow-refusal-spec =
     tie.close
     (tie.spec
-    unsound-requires
+    canvas-refusal-requires
     tall-refusal-requires
     first-requires
     larger-side-requires

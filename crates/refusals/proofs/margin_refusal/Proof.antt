@@ -2,7 +2,7 @@
 use mathlib.Core.Path.{_≡_, sym, _∙_}
 use Prim.Native.Nat.{_+_}
 use native.Mathlib.Omega.{arith}
-use Rattle.refusals.specs.Refusals.{first, unsound, tallRefusal, marginRefusal}
+use Rattle.refusals.specs.Refusals.{first, canvasRefusal, tallRefusal, marginRefusal}
 use Rattle.refusals.proofs.Codes.{first-some, first-none, first-done, tall-done}
 use borrow.Author.Needs.{needs}
 use Rattle.refusals.proofs.margin_refusal.Statement.{statement}
@@ -10,11 +10,11 @@ use Rattle.refusals.proofs.margin_refusal.Tie as tie
 
 -- the number that the sum is tested under
 numbered : (c : tie.After-first) → let p = c .before .before .before .args in
-    c .first .result ≡ first (unsound (p .w) (p .h) (p .n)) (tallRefusal (p .h + p .rows))
-numbered c = c .first .ensures ∙ rw (c .before .tall-refusal .ensures, c .before .before .unsound .ensures)
+    c .first .result ≡ first (canvasRefusal (p .w) (p .h) (p .n)) (tallRefusal (p .h + p .rows))
+numbered c = c .first .ensures ∙ rw (c .before .tall-refusal .ensures, c .before .before .canvas-refusal .ensures)
 
-unsound-requires : tie.Need-unsound-requires
-unsound-requires c κs = search needs
+canvas-refusal-requires : tie.Need-canvas-refusal-requires
+canvas-refusal-requires c κs = search needs
 
 add-tall-refusal : tie.Need-add-tall-refusal
 add-tall-refusal c = search needs
@@ -43,7 +43,7 @@ pub margin-refusal-spec : {M : Type 1} → statement M
 margin-refusal-spec =
     tie.close
     (tie.spec
-    unsound-requires
+    canvas-refusal-requires
     add-tall-refusal
     tall-refusal-requires
     first-requires

@@ -5,8 +5,8 @@ use borrow.Author.Needs.{needs}
 use Rattle.refusals.proofs.out_refusal.Statement.{statement}
 use Rattle.refusals.proofs.out_refusal.Tie as tie
 
-unsound-requires : tie.Need-unsound-requires
-unsound-requires c κs = search needs
+canvas-refusal-requires : tie.Need-canvas-refusal-requires
+canvas-refusal-requires c κs = search needs
 
 room-refusal-requires : tie.Need-room-refusal-requires
 room-refusal-requires c κs = search needs
@@ -16,8 +16,8 @@ first-requires c κs = search needs
 
 returns : tie.Need-returns
 unfolding outRefusal
-returns c = c .first .ensures ∙ rw (c .before .room-refusal .ensures, c .before .before .unsound .ensures)
+returns c = c .first .ensures ∙ rw (c .before .room-refusal .ensures, c .before .before .canvas-refusal .ensures)
 
 pub out-refusal-spec : {M : Type 1} → statement M
 out-refusal-spec =
-    tie.close (tie.spec unsound-requires room-refusal-requires first-requires returns)
+    tie.close (tie.spec canvas-refusal-requires room-refusal-requires first-requires returns)

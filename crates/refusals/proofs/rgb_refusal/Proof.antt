@@ -5,8 +5,8 @@ use borrow.Author.Needs.{needs}
 use Rattle.refusals.proofs.rgb_refusal.Statement.{statement}
 use Rattle.refusals.proofs.rgb_refusal.Tie as tie
 
-unsound-requires : tie.Need-unsound-requires
-unsound-requires c κs = search needs
+canvas-refusal-requires : tie.Need-canvas-refusal-requires
+canvas-refusal-requires c κs = search needs
 
 rgb-room-refusal-requires : tie.Need-rgb-room-refusal-requires
 rgb-room-refusal-requires c κs = search needs
@@ -16,8 +16,8 @@ first-requires c κs = search needs
 
 returns : tie.Need-returns
 unfolding rgbRefusal
-returns c = c .first .ensures ∙ rw (c .before .rgb-room-refusal .ensures, c .before .before .unsound .ensures)
+returns c = c .first .ensures ∙ rw (c .before .rgb-room-refusal .ensures, c .before .before .canvas-refusal .ensures)
 
 pub rgb-refusal-spec : {M : Type 1} → statement M
 rgb-refusal-spec =
-    tie.close (tie.spec unsound-requires rgb-room-refusal-requires first-requires returns)
+    tie.close (tie.spec canvas-refusal-requires rgb-room-refusal-requires first-requires returns)

@@ -5,8 +5,8 @@ use borrow.Author.Needs.{needs}
 use Rattle.refusals.proofs.width_refusal.Statement.{statement}
 use Rattle.refusals.proofs.width_refusal.Tie as tie
 
-unsound-requires : tie.Need-unsound-requires
-unsound-requires c κs = search needs
+canvas-refusal-requires : tie.Need-canvas-refusal-requires
+canvas-refusal-requires c κs = search needs
 
 wide-refusal-requires : tie.Need-wide-refusal-requires
 wide-refusal-requires c κs = search needs
@@ -16,8 +16,8 @@ first-requires c κs = search needs
 
 returns : tie.Need-returns
 unfolding widthRefusal
-returns c = c .first .ensures ∙ rw (c .before .wide-refusal .ensures, c .before .before .unsound .ensures)
+returns c = c .first .ensures ∙ rw (c .before .wide-refusal .ensures, c .before .before .canvas-refusal .ensures)
 
 pub width-refusal-spec : {M : Type 1} → statement M
 width-refusal-spec =
-    tie.close (tie.spec unsound-requires wide-refusal-requires first-requires returns)
+    tie.close (tie.spec canvas-refusal-requires wide-refusal-requires first-requires returns)

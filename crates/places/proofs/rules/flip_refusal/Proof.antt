@@ -17,8 +17,8 @@ result-refusal-requires c κs = search needs
 first-requires : tie.Need-first-requires
 first-requires c κs = search needs
 
-unsound-requires : tie.Need-unsound-requires
-unsound-requires c κs = search needs
+canvas-refusal-requires : tie.Need-canvas-refusal-requires
+canvas-refusal-requires c κs = search needs
 
 empty-refusal-requires : tie.Need-empty-refusal-requires
 empty-refusal-requires c κs = search needs
@@ -39,7 +39,7 @@ returns c =
     let r = f .before in
     let t = r .before in
     c .first3 .ensures
-    ∙ rw (u .unsound .ensures, g .first2 .ensures, e .empty-refusal .ensures, f .first .ensures, t .before .across-refusal .ensures, r .result-refusal .ensures, t .flip-tall .ensures)
+    ∙ rw (u .canvas-refusal .ensures, g .first2 .ensures, e .empty-refusal .ensures, f .first .ensures, t .before .across-refusal .ensures, r .result-refusal .ensures, t .flip-tall .ensures)
 
 pub flip-refusal-spec : {M : Type 1} → statement M
 flip-refusal-spec =
@@ -49,7 +49,7 @@ flip-refusal-spec =
     flip-tall-requires
     result-refusal-requires
     first-requires
-    unsound-requires
+    canvas-refusal-requires
     empty-refusal-requires
     first-requires-2
     first-requires-3

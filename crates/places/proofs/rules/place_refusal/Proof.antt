@@ -38,8 +38,8 @@ first-requires-4 c κs = search needs
 first-requires-5 : tie.Need-first-requires-5
 first-requires-5 c κs = search needs
 
-unsound-requires : tie.Need-unsound-requires
-unsound-requires c κs = search needs
+canvas-refusal-requires : tie.Need-canvas-refusal-requires
+canvas-refusal-requires c κs = search needs
 
 first-requires-6 : tie.Need-first-requires-6
 first-requires-6 c κs = search needs
@@ -59,7 +59,7 @@ returns c =
     let e = o .before in
     let r = e .before in
     c .first6 .ensures
-    ∙ rw (u .unsound .ensures, f .first5 .ensures, l .length-refusal .ensures, g .first4 .ensures, s .side-refusal .ensures, k .first3 .ensures)
+    ∙ rw (u .canvas-refusal .ensures, f .first5 .ensures, l .length-refusal .ensures, g .first4 .ensures, s .side-refusal .ensures, k .first3 .ensures)
     (rw (m .many-refusal .ensures, p .first2 .ensures, o .off-refusal .ensures, e .first .ensures, r .before .short-refusal .ensures, r .result-refusal .ensures))
 
 pub place-refusal-spec : {M : Type 1} → statement M
@@ -77,6 +77,6 @@ place-refusal-spec =
     side-refusal-requires
     first-requires-4
     first-requires-5
-    unsound-requires
+    canvas-refusal-requires
     first-requires-6
     returns)

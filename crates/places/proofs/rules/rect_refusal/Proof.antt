@@ -14,8 +14,8 @@ result-refusal-requires c κs = search needs
 first-requires : tie.Need-first-requires
 first-requires c κs = search needs
 
-unsound-requires : tie.Need-unsound-requires
-unsound-requires c κs = search needs
+canvas-refusal-requires : tie.Need-canvas-refusal-requires
+canvas-refusal-requires c κs = search needs
 
 side-refusal-requires : tie.Need-side-refusal-requires
 side-refusal-requires c κs = search needs
@@ -34,7 +34,7 @@ returns c =
     let f = u .before in
     let r = f .before in
     rw (equal-refusal _ _ _ _ _ _ _) (c .first3 .ensures
-    ∙ rw (u .unsound .ensures, g .first2 .ensures, s .side-refusal .ensures, f .first .ensures, r .before .off-refusal .ensures, r .result-refusal .ensures))
+    ∙ rw (u .canvas-refusal .ensures, g .first2 .ensures, s .side-refusal .ensures, f .first .ensures, r .before .off-refusal .ensures, r .result-refusal .ensures))
 
 pub rect-refusal-spec : {M : Type 1} → statement M
 rect-refusal-spec =
@@ -43,7 +43,7 @@ rect-refusal-spec =
     off-refusal-requires
     result-refusal-requires
     first-requires
-    unsound-requires
+    canvas-refusal-requires
     side-refusal-requires
     first-requires-2
     first-requires-3

@@ -5,19 +5,19 @@ use borrow.Author.Needs.{needs}
 use Rattle.thermal_image.proofs.ThermalImage.empty.Statement.{statement}
 use Rattle.thermal_image.proofs.ThermalImage.empty.Tie as tie
 
-unsound-requires : tie.Need-unsound-requires
-unsound-requires c κs = search needs
+canvas-refusal-requires : tie.Need-canvas-refusal-requires
+canvas-refusal-requires c κs = search needs
 
 returns : tie.Need-returns
 unfolding emptied
-returns c = refused (c .before .unsound .ensures) _ _ (c .if1 .taken)
+returns c = refused (c .before .canvas-refusal .ensures) _ _ (c .if1 .taken)
 
 sized-requires : tie.Need-sized-requires
 sized-requires c κs = search needs
 
 returns-2 : tie.Need-returns-2
 unfolding emptied
-returns-2 c = let d = c .before in did (d .before .unsound .ensures) _ _ (d .if1 .left) (c .sized .ensures)
+returns-2 c = let d = c .before in did (d .before .canvas-refusal .ensures) _ _ (d .if1 .left) (c .sized .ensures)
 
 pub empty-spec : {M : Type 1} → statement M
-empty-spec = tie.close (tie.spec unsound-requires returns sized-requires returns-2)
+empty-spec = tie.close (tie.spec canvas-refusal-requires returns sized-requires returns-2)

@@ -1,19 +1,19 @@
--- `refusals::unsound` meets its contract. Assumes nothing.
+-- `refusals::canvas_refusal` meets its contract. Assumes nothing.
 use native.Mathlib.Omega.{arith}
 use borrow.Author.Tests.{lt-ltb, le-ltb}
 use Rattle.numbers.proofs.Sides.{area}
-use Rattle.refusals.specs.Refusals.{unsound}
-use Rattle.refusals.proofs.Codes.{unsound-flat, unsound-short, unsound-none}
+use Rattle.refusals.specs.Refusals.{canvasRefusal}
+use Rattle.refusals.proofs.Codes.{canvas-refusal-flat, canvas-refusal-short, canvas-refusal-none}
 use borrow.Author.Needs.{needs}
-use Rattle.refusals.proofs.unsound.Statement.{statement}
-use Rattle.refusals.proofs.unsound.Tie as tie
+use Rattle.refusals.proofs.canvas_refusal.Statement.{statement}
+use Rattle.refusals.proofs.canvas_refusal.Tie as tie
 
 returns : tie.Need-returns
-unfolding unsound
+unfolding canvasRefusal
 returns c = rw (lt-ltb _ _ (c .if1 .taken))
 
 returns-2 : tie.Need-returns-2
-unfolding unsound
+unfolding canvasRefusal
 returns-2 c = rw (le-ltb _ _ (c .before .if1 .left), lt-ltb _ _ (c .if2 .taken))
 
 rows-of-requires : tie.Need-rows-of-requires
@@ -23,7 +23,7 @@ returns-3 : tie.Need-returns-3
 returns-3 c =
     let r = c .before in
     let e = r .before in
-    unsound-flat _ _ _ (e .before .if1 .left) (e .if2 .left) (r .rows-of .ensures) (c .if3 .taken)
+    canvas-refusal-flat _ _ _ (e .before .if1 .left) (e .if2 .left) (r .rows-of .ensures) (c .if3 .taken)
 
 mul-if4 : tie.Need-mul-if4
 mul-if4 c = let e = c .before .before in omega (arith, area (e .before .if1 .left) (e .if2 .left))
@@ -33,17 +33,17 @@ returns-4 c =
     let f = c .before in
     let r = f .before in
     let e = r .before in
-    unsound-short _ _ _ (e .before .if1 .left) (e .if2 .left) (r .rows-of .ensures) (f .if3 .left) (c .if4 .taken)
+    canvas-refusal-short _ _ _ (e .before .if1 .left) (e .if2 .left) (r .rows-of .ensures) (f .if3 .left) (c .if4 .taken)
 
 returns-5 : tie.Need-returns-5
 returns-5 c =
     let f = c .before in
     let r = f .before in
     let e = r .before in
-    unsound-none _ _ _ (e .before .if1 .left) (e .if2 .left) (r .rows-of .ensures) (f .if3 .left) (c .if4 .left)
+    canvas-refusal-none _ _ _ (e .before .if1 .left) (e .if2 .left) (r .rows-of .ensures) (f .if3 .left) (c .if4 .left)
 
-pub unsound-spec : {M : Type 1} → statement M
-unsound-spec =
+pub canvas-refusal-spec : {M : Type 1} → statement M
+canvas-refusal-spec =
     tie.close
     (tie.spec
     returns
