@@ -45,19 +45,32 @@ fn tally(name: &[u8], s: &[u8], one: &mut [u8], two: &mut [u8]) {
     t.tell(name);
 }
 
-// The line names the buffer that holds the canvas, and ends in the checksums of both.
+// A line ends in the checksums of both buffers.
 fn agrees(line: &[u8], one: &mut [u8], two: &mut [u8]) -> bool {
     if line.len() != LINE {
         return false;
     }
-    if line[2] == b'0' {
-        return called(line, one, 149, two, 158);
+    if !asked(line, one, two) {
+        return false;
     }
-    called(line, two, 158, one, 149)
+    if checksum(one) != number_at(line, 149, 8) {
+        return false;
+    }
+    checksum(two) == number_at(line, 158, 8)
 }
 
-fn called(line: &[u8], buf: &mut [u8], buf_sum: usize, out: &mut [u8], out_sum: usize) -> bool
-    requires { ⌜ (167 ≤ length (now line)) × («buf_sum» ≤ 158) × («out_sum» ≤ 158) ⌝ }
+// The line names the buffer that holds the canvas.
+fn asked(line: &[u8], one: &mut [u8], two: &mut [u8]) -> bool
+    requires { ⌜ 167 ≤ length (now line) ⌝ }
+{
+    if line[2] == b'0' {
+        return called(line, one, two);
+    }
+    called(line, two, one)
+}
+
+fn called(line: &[u8], buf: &mut [u8], out: &mut [u8]) -> bool
+    requires { ⌜ 167 ≤ length (now line) ⌝ }
 {
     let n = number_at(line, 85, 6) as usize;
     let m = number_at(line, 92, 6) as usize;
@@ -67,12 +80,5 @@ fn called(line: &[u8], buf: &mut [u8], buf_sum: usize, out: &mut [u8], out_sum: 
     if out.len() < m {
         return false;
     }
-    let r = answer(line, &mut buf[..n], &mut out[..m]);
-    if !says(line, r) {
-        return false;
-    }
-    if checksum(buf) != number_at(line, buf_sum, 8) {
-        return false;
-    }
-    checksum(out) == number_at(line, out_sum, 8)
+    says(line, answer(line, &mut buf[..n], &mut out[..m]))
 }

@@ -50,36 +50,6 @@ same-length-2 c = search needs
 returns-3 : tie.Need-returns-3
 returns-3 c = search needs
 
-checksum-requires : tie.Need-checksum-requires
-checksum-requires c κs = search needs
-
-number-at-requires-3 : tie.Need-number-at-requires-3
-number-at-requires-3 c κs = search needs
-
-same-length-3 : tie.Need-same-length-3
-same-length-3 c = search needs
-
-same-length-4 : tie.Need-same-length-4
-same-length-4 c = search needs
-
-returns-4 : tie.Need-returns-4
-returns-4 c = search needs
-
-checksum-requires-2 : tie.Need-checksum-requires-2
-checksum-requires-2 c κs = search needs
-
-number-at-requires-4 : tie.Need-number-at-requires-4
-number-at-requires-4 c κs = search needs
-
-same-length-5 : tie.Need-same-length-5
-same-length-5 c = search needs
-
-same-length-6 : tie.Need-same-length-6
-same-length-6 c = search needs
-
-returns-5 : tie.Need-returns-5
-returns-5 c = search needs
-
 pub called-spec : {M : Type 1} → statement M
 called-spec =
     tie.close
@@ -98,14 +68,4 @@ called-spec =
     says-requires
     same-length
     same-length-2
-    returns-3
-    checksum-requires
-    number-at-requires-3
-    same-length-3
-    same-length-4
-    returns-4
-    checksum-requires-2
-    number-at-requires-4
-    same-length-5
-    same-length-6
-    returns-5)
+    returns-3)
