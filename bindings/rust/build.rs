@@ -1,4 +1,4 @@
-//! Links the static library. Where it is not there yet, `rt` proves and writes it.
+//! Links the static library. Where it is not there yet, `bindings/library` proves and writes it.
 
 use std::env;
 use std::path::Path;
@@ -10,11 +10,10 @@ fn main() {
     let folder = top.join("target/staticlib");
     let library = folder.join("libthermal.a");
     if !library.exists() {
-        let mut rt = Command::new("rt");
-        rt.args(["staticlib", "thermal"]).stdout(Stdio::null());
-        let status = rt.current_dir(&top).status();
-        let proved = status.expect("`rt` writes the library").success();
-        assert!(proved, "`rt staticlib thermal` writes the library");
+        let mut make = Command::new(top.join("bindings/library"));
+        let status = make.stdout(Stdio::null()).status();
+        let proved = status.expect("`bindings/library` is run").success();
+        assert!(proved, "`bindings/library` proves and writes the library");
     }
     println!("cargo:rerun-if-changed={}", library.display());
     println!("cargo:rustc-link-search=native={}", folder.display());

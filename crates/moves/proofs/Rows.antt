@@ -77,7 +77,7 @@ module _ (w wide left r : ℕ) (paper : RGBA) (l : List ℕ) where
       → m ≡ change (within start (start + wide)) rowDot l
   row-three fits ed ea eb em = em ∙ rw (eb, ea, ed) (row-done fits)
 
--- a widened dot is known by the row that it is read from
+-- a padded dot is known by the row that it is read from
 padded-from : (w left r c : ℕ) (paper : RGBA) (b l : List ℕ) → ((j : ℕ) → j < r * w + w → dotAt b j ≡ dotAt l j)
     → paddedAt w left paper b c r ≡ paddedAt w left paper l c r
 unfolding paddedAt

@@ -1,5 +1,5 @@
 // The numbers that an entry can give, and the largest side: document 01's table. Beside them the
-// smaller and the larger of two.
+// smaller and the larger of two numbers.
 mod order;
 
 pub use order::larger;

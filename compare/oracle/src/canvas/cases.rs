@@ -331,16 +331,17 @@ pub fn color(random: &mut Random) -> u32 {
 /// Dots that are opaque, either opaque or clear, or of every alpha.
 pub fn dots(count: usize, random: &mut Random) -> Vec<u8> {
     match random.below(4) {
-        0 => each(count, || random.u32() | 0xff00_0000),
-        1 => each(count, || {
+        0 => dots_by(count, || random.u32() | 0xff00_0000),
+        1 => dots_by(count, || {
             random.u32() & 0x00ff_ffff | random.one_of(&[0, 0xff00_0000])
         }),
-        2 => each(count, || color(random)),
-        _ => each(count, || random.u32()),
+        2 => dots_by(count, || color(random)),
+        _ => dots_by(count, || random.u32()),
     }
 }
 
-fn each(count: usize, mut dot: impl FnMut() -> u32) -> Vec<u8> {
+/// `count` dots, each by a call.
+fn dots_by(count: usize, mut dot: impl FnMut() -> u32) -> Vec<u8> {
     let mut dots = vec![0; 4 * count];
     for bytes in dots.chunks_exact_mut(4) {
         bytes.copy_from_slice(&dot().to_le_bytes());
