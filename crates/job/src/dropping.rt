@@ -12,6 +12,7 @@ use images::factor_of;
 use images::is_large;
 use numbers::TOO_LARGE;
 use numbers::WRONG_LENGTH;
+use numbers::larger;
 use refusals::across_refusal;
 use refusals::empty_refusal;
 use refusals::first;
@@ -30,11 +31,7 @@ pub struct Dropped {
 fn reached(height: u32, y: u32, h: u32) -> usize
     ensures { λ r. ⌜ r ≡ max height (y + h) ⌝ }
 {
-    let end = y as usize + h as usize;
-    if end > height as usize {
-        return end;
-    }
-    height as usize
+    larger(height as usize, y as usize + h as usize)
 }
 
 fn put_reason(width: u32, height: u32, x: u32, y: u32, w: u32, h: u32) -> u8
