@@ -1,4 +1,6 @@
 // Lists stored jobs, one after another, as strip does; a program has one stored input of its own.
+ghost use Rattle.std.specs.Prelude.{◌≤◌, length};
+
 use libc::STDOUT_FILENO;
 use listing::MOST_BYTES;
 use plan::Plan;
@@ -25,24 +27,27 @@ fn show(path: &[u8]) {
 }
 
 fn list(job: &[u8]) {
-    let mut block = io::large_buffer();
+    let mut line = [0u8; 65536];
+    let mut text = io::buffer();
     let t = listing::list_job(job);
-    let first = listing::first_line(t, &mut block);
-    let n = first.size;
-    io::write_all(STDOUT_FILENO, &block[..n]);
+    let first = listing::first_line(t, &mut text);
+    tell(&text, first.size);
     let plan = t.plan;
-    list_rows(plan, job, &mut block);
+    list_rows(plan, job, &mut line, &mut text);
 }
 
-fn list_rows(plan: Plan, job: &[u8], block: &mut [u8]) {
+fn list_rows(plan: Plan, job: &[u8], line: &mut [u8], text: &mut [u8]) {
     let mut row = 0;
-    loop {
-        let lines = listing::row_lines(plan, row, job, block);
-        let n = lines.size;
-        if n == 0 {
-            return;
-        }
-        io::write_all(STDOUT_FILENO, &block[..n]);
-        row = lines.next;
+    while row < plan.height {
+        let answer = rows::row(plan, row, job, line);
+        let next = listing::row_line(row, answer.ink, text);
+        tell(text, next.size);
+        row += 1;
     }
+}
+
+fn tell(text: &[u8], n: usize)
+    requires { n ≤ length text.now }
+{
+    io::write_all(STDOUT_FILENO, &text[..n]);
 }

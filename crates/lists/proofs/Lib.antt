@@ -1,3 +1,4 @@
 mod Laws
-pub mod Locals
-pub mod Unique
+mod Again
+mod Locals
+mod Unique

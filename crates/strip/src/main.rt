@@ -1,10 +1,12 @@
 // The program `strip`: the listing of the job on standard input. Document 01, "The listing".
-// No contract can say what a program reads or writes, so what is done here is to read, to ask and to
-// write. That what is written is the listing is the law `strip-lists` of agreement.
+// The lines are made by listing. No contract can say what a program reads or writes, so what is
+// done here is to read, to ask and to write.
+ghost use Rattle.std.specs.Prelude.{◌≤◌, length};
 ghost use Rattle.io.specs.Counts.{IsPrefixLen};
 
 use libc::{STDIN_FILENO, STDOUT_FILENO};
 use listing::MOST_BYTES;
+use numbers::DONE;
 use plan::Plan;
 
 // A byte more than a job may have.
@@ -60,29 +62,56 @@ fn read_input(buf: &mut [u8]) -> Input
 
 // Whether all could be written.
 fn list(job: &[u8]) -> bool {
+    let mut line = [0u8; 65536];
     let mut block = io::large_buffer();
     let t = listing::list_job(job);
-    let first = listing::first_line(t, &mut block);
-    let n = first.size;
-    if io::write_all(STDOUT_FILENO, &block[..n]) {
-        let plan = t.plan;
-        return list_rows(plan, job, &mut block);
-    }
-    false
+    let text = listing::first_line(t, &mut block);
+    let n = text.size;
+    let plan = t.plan;
+    list_rows(plan, job, &mut line, &mut block, n)
 }
 
-// The lines of the rows, block after block, until there are none.
-fn list_rows(plan: Plan, job: &[u8], block: &mut [u8]) -> bool {
+// The lines of the rows, after the first `from` bytes of the block. Only one row's dots are held. A
+// translated plan keeps the plan rules, so no row is refused.
+fn list_rows(plan: Plan, job: &[u8], line: &mut [u8], block: &mut [u8], from: usize) -> bool
+    requires { from ≤ length block.old }
+{
+    let mut at = from;
     let mut row = 0;
-    loop {
-        let lines = listing::row_lines(plan, row, job, block);
-        let n = lines.size;
-        if n == 0 {
-            return true;
-        }
-        if !io::write_all(STDOUT_FILENO, &block[..n]) {
+    while row < plan.height {
+        let answer = rows::row(plan, row, job, line);
+        let put = put_line(row, answer.ink, at, block);
+        if put.failed {
             return false;
         }
-        row = lines.next;
+        at = put.at;
+        row += 1;
+    }
+    io::write_all(STDOUT_FILENO, &block[..at])
+}
+
+#[derive(Drop)]
+struct Put {
+    failed: bool,
+    at: usize,
+}
+
+// A row's line, after the first `at` bytes of the block, which are written where it has no room.
+fn put_line(row: u32, ink: u32, at: usize, block: &mut [u8]) -> Put
+    requires { at ≤ length block.old }
+    ensures { result.at ≤ length block.new }
+{
+    let text = listing::row_line(row, ink, &mut block[at..]);
+    if text.number == DONE {
+        return Put {
+            failed: false,
+            at: at + text.size,
+        };
+    }
+    let failed = !io::write_all(STDOUT_FILENO, &block[..at]);
+    let again = listing::row_line(row, ink, block);
+    Put {
+        failed,
+        at: again.size,
     }
 }

@@ -1,14 +1,4 @@
 -- Each exported function's contract leaves one answer and one content of what is lent. Assumes nothing.
-use mathlib.Core.Path.{◌≡◌, refl}
-use seplogic.Ra.Ura.{Ura}
-use base.Logic.{SProp}
-use prog.Memory.{Memory}
-use prog.Routine.{Routine}
-use types.Logic.{Logic}
-use contract.Lifetimes.{Lfts}
-use contract.Monad.{Fun, fact}
-use denote.Triple.Entry.{Args, Res}
-use denote.Triple.Clauses.{AtExit}
 use Rattle.numbers.proofs.OneAnswer.{OneAnswer, OneContent, both}
 use Rattle.thermal.proofs.colours.thermal_with_alpha.Reads as with-alpha
 use Rattle.thermal.proofs.colours.thermal_blend_foreground.Reads as blend-foreground
@@ -41,10 +31,7 @@ use Rattle.thermal.proofs.draw.thermal_draw_border.Reads as draw-border
 use Rattle.thermal.proofs.jobs.thermal_run.Reads as run
 use Rattle.thermal.proofs.jobs.thermal_translate.Reads as translate
 use Rattle.thermal.proofs.jobs.thermal_row.Reads as row
-use Rattle.thermal.specs.contracts.jobs.thermal_row_of_entries as f
 use Rattle.thermal.proofs.jobs.thermal_rows.Reads as rows
-use Rattle.thermal.proofs.version.thermal_version.Reads as version
-use Rattle.lists.proofs.Unique as lists
 
 with-alpha-one : OneAnswer with-alpha.Post
 with-alpha-one k a x y e f p q = both p q
@@ -196,21 +183,8 @@ row_one k a x y e f p q = both p.0 q.0
 row-content : OneContent row.Post (λ k e. e.1.1.1.0.now)
 row-content k a x y e f p q = both p.1 q.1
 
--- its proof is by hand, so what is read of the contract is that of `row_of_entries` of lists, and `reads` holds it to the contract itself
-reads : {M : Type 1} {𝓤 : Ura M} (𝓛 : Logic 𝓤) (mem : Memory → SProp 𝓤) (run : Routine → Fun 𝓤) (k : Lfts 3) (a : Args f.signature k) (r : Res f.signature k) (e : AtExit f.ended k) → (f.clauses 𝓛 mem run k a).ensures tt r e ≡ fact 𝓤 (lists.Post k a r e)
-reads 𝓛 mem run k a r e = refl
-
-row-of-entries-one : OneAnswer lists.Post
-row-of-entries-one = lists.row-of-entries-one
-
-row-of-entries-content : OneContent lists.Post (λ k e. e.1.1.1.1.1.1.0.now)
-row-of-entries-content = lists.row-of-entries-content
-
 rows-one : OneAnswer rows.Post
 rows-one k a x y e f p q = both p.0 q.0
 
 rows-content : OneContent rows.Post (λ k e. e.1.1.1.1.0.now)
 rows-content k a x y e f p q = both p.1 q.1
-
-version-one : OneAnswer version.Post
-version-one k a x y e f p q = both p q

@@ -5,4 +5,3 @@ pub mod colours;
 pub mod decoders;
 pub mod draw;
 pub mod jobs;
-pub mod version;

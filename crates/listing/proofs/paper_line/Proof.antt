@@ -1,14 +1,14 @@
 -- `listing::paper_line` meets its contract. Assumes nothing.
 use mathlib.Core.List.{◌++◌}
 use Rattle.listing.specs.Listing.{ascii, part, paper_line}
-use Rattle.listing.proofs.Lines.{Begun, begun-none, begun_more, begun-end, line_refused, line-put, paper-size, paper-parts}
+use Rattle.listing.proofs.Lines.{Begun, begun-none, begun_more, begun-same, line_refused, line-put, paper-size, paper-parts}
 use borrow.Author.Rules.{rules}
 use Rattle.listing.proofs.paper_line.Statement.{statement}
 use Rattle.listing.proofs.paper_line.Tie as tie
 
-begun : (c : tie.After-slice-known4) → let a = c.before.before.before.before.before.before.before.before.before.before.before.before.before.before.before.before.before.before.before.before.args in Begun 0 ((part "paper " a.width ++ part " height " a.height) ++ part " dropped " a.dropped) a.out.now c.before.before.put-part3.new.1.1.1.0 c.before.before.put-part3.result
+begun : (c : tie.After-slice-known4) → let a = c.before.before.before.before.before.before.before.before.before.before.before.before.before.before.before.before.before.before.before.before.args in Begun ((part "paper " a.width ++ part " height " a.height) ++ part " dropped " a.dropped) a.out.now c.before.before.put-part3.new.1.1.1.0 c.before.before.put-part3.result
 unfolding part ascii
-begun c = let a = c.before.before.before.before.before.before.before.before.before.before.before.before.before.before.before.before.before.before.before.before.args in begun_more (begun_more (begun_more (begun-none 0 a.out.now) (part "paper " a.width) c.before.before.before.before.before.before.before.before.before.before.before.before.put-part.ensures.0 c.before.before.before.before.before.before.before.before.before.before.before.before.put-part.ensures.1) (part " height " a.height) c.before.before.before.before.before.before.before.put-part2.ensures.0 c.before.before.before.before.before.before.before.put-part2.ensures.1) (part " dropped " a.dropped) c.before.before.put-part3.ensures.0 c.before.before.put-part3.ensures.1
+begun c = let a = c.before.before.before.before.before.before.before.before.before.before.before.before.before.before.before.before.before.before.before.before.args in begun_more (begun_more (begun_more (begun-none a.out.now) (part "paper " a.width) c.before.before.before.before.before.before.before.before.before.before.before.before.put-part.ensures.0 c.before.before.before.before.before.before.before.before.before.before.before.before.put-part.ensures.1) (part " height " a.height) c.before.before.before.before.before.before.before.put-part2.ensures.0 c.before.before.before.before.before.before.before.put-part2.ensures.1) (part " dropped " a.dropped) c.before.before.put-part3.ensures.0 c.before.before.put-part3.ensures.1
 
 digits-of-requires : tie.Need-digits-of-requires
 digits-of-requires c κs = search rules
@@ -53,7 +53,7 @@ slice-write-out : tie.Need-slice-write-out
 slice-write-out c = search rules
 
 same_length : tie.Need-same-length
-same_length c = (begun-end (begun c)).same
+same_length c = begun-same (begun c)
 
 returns-2 : tie.Need-returns-2
 returns-2 c =

@@ -5,9 +5,9 @@ use borrow.Author.Rules.{rules}
 use Rattle.listing.proofs.refused_line.Statement.{statement}
 use Rattle.listing.proofs.refused_line.Tie as tie
 
-begun : (c : tie.After-slice-known2) → let a = c.before.before.before.before.before.before.before.before.args in Begun 0 (part "refused " a.number) a.out.now c.before.before.put-part.new.1.1.1.0 c.before.before.put-part.result
+begun : (c : tie.After-slice-known2) → let a = c.before.before.before.before.before.before.before.before.args in Begun (part "refused " a.number) a.out.now c.before.before.put-part.new.1.1.1.0 c.before.before.put-part.result
 unfolding part ascii
-begun c = let a = c.before.before.before.before.before.before.before.before.args in begun_more (begun-none 0 a.out.now) (part "refused " a.number) c.before.before.put-part.ensures.0 c.before.before.put-part.ensures.1
+begun c = let a = c.before.before.before.before.before.before.before.before.args in begun_more (begun-none a.out.now) (part "refused " a.number) c.before.before.put-part.ensures.0 c.before.before.put-part.ensures.1
 
 digits-of-requires : tie.Need-digits-of-requires
 digits-of-requires c κs = search rules

@@ -5,15 +5,12 @@ use borrow.Author.Rules.{rules}
 use Rattle.plan.proofs.fresh.Statement.{statement}
 use Rattle.plan.proofs.fresh.Tie as tie
 
-none-requires : tie.Need-none-requires
-none-requires c κs = search rules
-
 no-entry-requires : tie.Need-no-entry-requires
 no-entry-requires c κs = search rules
 
 returns : tie.Need-returns
 unfolding filled_up
-returns c = rw (c.no-entry.ensures, c.before.none.ensures) refl
+returns c = rw c.no-entry.ensures refl
 
 pub fresh-spec : {M : Type 1} → statement M
-fresh-spec = tie.close (tie.spec none-requires no-entry-requires returns)
+fresh-spec = tie.close (tie.spec no-entry-requires returns)

@@ -1,12 +1,11 @@
 -- `plan::has_flip` meets its contract. Assumes nothing.
-use mathlib.Core.Path.{ap, sym, ◌∙◌}
+use mathlib.Core.Path.{sym, ◌∙◌}
 use Prim.Native.Nat.{◌-◌}
 use native.Mathlib.Omega.{arith}
 use lib.ListN.{length}
 use Rattle.job.proofs.Found.{found}
-use Rattle.job.proofs.Walk.{good, walk_start, walk-bad}
-use Rattle.plan.specs.Plan.{has_flip}
-use Rattle.plan.proofs.Going.{Searched, searched-next, searched-found, searched-end}
+use Rattle.job.proofs.Walk.{good}
+use Rattle.plan.proofs.Going.{Searched, searched-start, searched-next, searched-found, searched-end, searched-bad}
 use borrow.Author.Rules.{rules}
 use Rattle.plan.proofs.has_flip.Statement.{statement}
 use Rattle.plan.proofs.has_flip.Tie as tie
@@ -18,7 +17,7 @@ abbrev decreases-loop : tie.decreases-loop
 decreases-loop s at₀ at = length s - at
 
 loop-holds : tie.Need-loop-init invariant-loop decreases-loop
-loop-holds c = let g = good _ c.before.requires in walk_start _ g (ap has_flip g.commands)
+loop-holds c = searched-start _ (good _ c.before.requires)
 
 next-record-requires : tie.Need-next-record-requires invariant-loop decreases-loop
 next-record-requires c κs = search rules
@@ -39,7 +38,7 @@ enum_told : tie.Need-enum-told invariant-loop decreases-loop
 enum_told c = search rules
 
 returns-2 : tie.Need-returns-2 invariant-loop decreases-loop
-returns-2 c = let l = c.before.before.before.loop in absurd (walk-bad _ l.at l.invariant (sym c.enum_told.given.1 ∙ c.before.before.next-record.ensures))
+returns-2 c = let l = c.before.before.before.loop in searched-bad _ l.at l.invariant (sym c.enum_told.given.1 ∙ c.before.before.next-record.ensures)
 
 enum-told-2 : tie.Need-enum-told-2 invariant-loop decreases-loop
 enum-told-2 c = search rules

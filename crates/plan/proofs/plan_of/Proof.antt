@@ -4,8 +4,8 @@ use Prim.Native.Nat.{◌-◌}
 use native.Mathlib.Omega.{arith}
 use lib.ListN.{length}
 use Rattle.job.proofs.Found.{found}
-use Rattle.job.proofs.Walk.{good, walk-bad, walk-sound}
-use Rattle.plan.proofs.Going.{Going, going_start, going_end, going-few, going-ready, going_next}
+use Rattle.job.proofs.Walk.{good}
+use Rattle.plan.proofs.Going.{Going, going_start, going-bad, going_end, going-sound, going-few, going-ready, going_next}
 use Rattle.plan.proofs.Answers.{plan-with}
 use borrow.Author.Rules.{rules}
 use Rattle.plan.proofs.plan_of.Statement.{statement}
@@ -39,7 +39,7 @@ command-at-requires : tie.Need-command-at-requires invariant-loop decreases-loop
 command-at-requires c κs =
     let l = c.before.before.before.before.loop in
     let e = (sym c.before.kind.given.1 ∙ c.before.before.before.next-record.ensures) in
-    (omega (arith, found _ _ e), walk-sound _ l.at l.invariant e)
+    (omega (arith, found _ _ e), going-sound _ l.p l.k l.at l.invariant e)
 
 step-requires : tie.Need-step-requires invariant-loop decreases-loop
 step-requires c κs = let l = c.before.before.before.before.before.loop in going-ready _ l.p l.k l.at l.invariant (sym c.before.before.kind.given.1 ∙ c.before.before.before.before.next-record.ensures)
@@ -57,7 +57,7 @@ enum_told : tie.Need-enum-told invariant-loop decreases-loop
 enum_told c = search rules
 
 returns : tie.Need-returns invariant-loop decreases-loop
-returns c = let l = c.before.before.before.loop in absurd (walk-bad _ l.at l.invariant (sym c.enum_told.given.1 ∙ c.before.before.next-record.ensures))
+returns c = let l = c.before.before.before.loop in absurd (going-bad _ l.p l.k l.at l.invariant (sym c.enum_told.given.1 ∙ c.before.before.next-record.ensures))
 
 enum-told-2 : tie.Need-enum-told-2 invariant-loop decreases-loop
 enum-told-2 c = search rules

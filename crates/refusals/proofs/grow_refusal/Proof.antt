@@ -11,8 +11,8 @@ canvas-refusal-requires c κs = search rules
 tall-refusal-requires : tie.Need-tall-refusal-requires
 tall-refusal-requires c κs = search rules
 
-first-of-requires : tie.Need-first-of-requires
-first-of-requires c κs = search rules
+first-requires : tie.Need-first-requires
+first-requires c κs = search rules
 
 larger-side-requires : tie.Need-larger-side-requires
 larger-side-requires c κs = search rules
@@ -20,8 +20,8 @@ larger-side-requires c κs = search rules
 room-refusal-requires : tie.Need-room-refusal-requires
 room-refusal-requires c κs = search rules
 
-first-of-requires-2 : tie.Need-first-of-requires-2
-first-of-requires-2 c κs = search rules
+first-requires-2 : tie.Need-first-requires-2
+first-requires-2 c κs = search rules
 
 returns : tie.Need-returns
 unfolding grow_refusal
@@ -29,7 +29,7 @@ returns c =
     let l = c.before.before in
     let f = l.before in
     let h = f.before in
-    c.first-of2.ensures ∙ rw (c.before.room-refusal.ensures, l.larger-side.ensures, f.first_of.ensures, h.tall-refusal.ensures, h.before.canvas-refusal.ensures)
+    c.first2.ensures ∙ rw (c.before.room-refusal.ensures, l.larger-side.ensures, f.first.ensures, h.tall-refusal.ensures, h.before.canvas-refusal.ensures)
 
 pub grow-refusal-spec : {M : Type 1} → statement M
 grow-refusal-spec =
@@ -37,8 +37,8 @@ grow-refusal-spec =
     (tie.spec
     canvas-refusal-requires
     tall-refusal-requires
-    first-of-requires
+    first-requires
     larger-side-requires
     room-refusal-requires
-    first-of-requires-2
+    first-requires-2
     returns)

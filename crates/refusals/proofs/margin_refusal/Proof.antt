@@ -2,16 +2,16 @@
 use mathlib.Core.Path.{◌≡◌, sym, ◌∙◌}
 use Prim.Native.Nat.{◌+◌}
 use native.Mathlib.Omega.{arith}
-use Rattle.refusals.specs.Refusals.{first_of, canvas_refusal, tall_refusal, margin_refusal}
-use Rattle.refusals.proofs.Codes.{first_some, first-none, first_done, tall-exact}
+use Rattle.refusals.specs.Refusals.{first, canvas_refusal, tall_refusal, margin_refusal}
+use Rattle.refusals.proofs.Codes.{first_some, first-none, first_done, tall-done}
 use borrow.Author.Rules.{rules}
 use Rattle.refusals.proofs.margin_refusal.Statement.{statement}
 use Rattle.refusals.proofs.margin_refusal.Tie as tie
 
 -- the number that the sum is tested under
-numbered : (c : tie.After-first-of) → let p = c.before.before.before.args in
-    c.first_of.result ≡ first_of (canvas_refusal p.w p.h p.n) (tall_refusal (p.h + p.rows))
-numbered c = c.first_of.ensures ∙ rw (c.before.tall-refusal.ensures, c.before.before.canvas-refusal.ensures)
+numbered : (c : tie.After-first) → let p = c.before.before.before.args in
+    c.first.result ≡ first (canvas_refusal p.w p.h p.n) (tall_refusal (p.h + p.rows))
+numbered c = c.first.ensures ∙ rw (c.before.tall-refusal.ensures, c.before.before.canvas-refusal.ensures)
 
 canvas-refusal-requires : tie.Need-canvas-refusal-requires
 canvas-refusal-requires c κs = search rules
@@ -22,15 +22,15 @@ add-tall-refusal c = search rules
 tall-refusal-requires : tie.Need-tall-refusal-requires
 tall-refusal-requires c κs = search rules
 
-first-of-requires : tie.Need-first-of-requires
-first-of-requires c κs = search rules
+first-requires : tie.Need-first-requires
+first-requires c κs = search rules
 
 returns : tie.Need-returns
 unfolding margin_refusal
 returns c = rw (← numbered c.before) (first_some _ _ c.if1.true)
 
 add-room-refusal : tie.Need-overflow-add-room-refusal
-add-room-refusal c = omega (arith, (tall-exact _).held (first_done _ _ (sym (numbered c.before) ∙ c.if1.false)).1)
+add-room-refusal c = omega (arith, tall-done _ (first_done _ _ (sym (numbered c.before) ∙ c.if1.false)).1)
 
 room-refusal-requires : tie.Need-room-refusal-requires
 room-refusal-requires c κs = search rules
@@ -46,7 +46,7 @@ margin-refusal-spec =
     canvas-refusal-requires
     add-tall-refusal
     tall-refusal-requires
-    first-of-requires
+    first-requires
     returns
     add-room-refusal
     room-refusal-requires

@@ -11,13 +11,13 @@ canvas-refusal-requires c κs = search rules
 room-refusal-requires : tie.Need-room-refusal-requires
 room-refusal-requires c κs = search rules
 
-first-of-requires : tie.Need-first-of-requires
-first-of-requires c κs = search rules
+first-requires : tie.Need-first-requires
+first-requires c κs = search rules
 
 returns : tie.Need-returns
 unfolding out_refusal
-returns c = c.first_of.ensures ∙ rw (c.before.room-refusal.ensures, c.before.before.canvas-refusal.ensures)
+returns c = c.first.ensures ∙ rw (c.before.room-refusal.ensures, c.before.before.canvas-refusal.ensures)
 
 pub out-refusal-spec : {M : Type 1} → statement M
 out-refusal-spec =
-    tie.close (tie.spec canvas-refusal-requires room-refusal-requires first-of-requires returns)
+    tie.close (tie.spec canvas-refusal-requires room-refusal-requires first-requires returns)

@@ -11,13 +11,13 @@ canvas-refusal-requires c κs = search rules
 rgb-room-refusal-requires : tie.Need-rgb-room-refusal-requires
 rgb-room-refusal-requires c κs = search rules
 
-first-of-requires : tie.Need-first-of-requires
-first-of-requires c κs = search rules
+first-requires : tie.Need-first-requires
+first-requires c κs = search rules
 
 returns : tie.Need-returns
 unfolding rgb_refusal
-returns c = c.first_of.ensures ∙ rw (c.before.rgb-room-refusal.ensures, c.before.before.canvas-refusal.ensures)
+returns c = c.first.ensures ∙ rw (c.before.rgb-room-refusal.ensures, c.before.before.canvas-refusal.ensures)
 
 pub rgb-refusal-spec : {M : Type 1} → statement M
 rgb-refusal-spec =
-    tie.close (tie.spec canvas-refusal-requires rgb-room-refusal-requires first-of-requires returns)
+    tie.close (tie.spec canvas-refusal-requires rgb-room-refusal-requires first-requires returns)

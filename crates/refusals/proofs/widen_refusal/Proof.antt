@@ -17,14 +17,14 @@ returns c = let d = c.before in rw (le-leb _ _ c.if1.true) (d.width-refusal.ensu
 room-refusal-requires : tie.Need-room-refusal-requires
 room-refusal-requires c κs = search rules
 
-first-of-requires : tie.Need-first-of-requires
-first-of-requires c κs = search rules
+first-requires : tie.Need-first-requires
+first-requires c κs = search rules
 
 returns-2 : tie.Need-returns-2
 unfolding widen_refusal
-returns-2 c = let d = c.before.before in rw (lt-leb _ _ d.if1.false) (c.first_of.ensures ∙ rw (c.before.room-refusal.ensures, d.before.width-refusal.ensures))
+returns-2 c = let d = c.before.before in rw (lt-leb _ _ d.if1.false) (c.first.ensures ∙ rw (c.before.room-refusal.ensures, d.before.width-refusal.ensures))
 
 pub widen-refusal-spec : {M : Type 1} → statement M
 widen-refusal-spec =
     tie.close
-    (tie.spec width-refusal-requires returns room-refusal-requires first-of-requires returns-2)
+    (tie.spec width-refusal-requires returns room-refusal-requires first-requires returns-2)

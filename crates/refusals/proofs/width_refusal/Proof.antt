@@ -11,13 +11,13 @@ canvas-refusal-requires c κs = search rules
 wide-refusal-requires : tie.Need-wide-refusal-requires
 wide-refusal-requires c κs = search rules
 
-first-of-requires : tie.Need-first-of-requires
-first-of-requires c κs = search rules
+first-requires : tie.Need-first-requires
+first-requires c κs = search rules
 
 returns : tie.Need-returns
 unfolding width_refusal
-returns c = c.first_of.ensures ∙ rw (c.before.wide-refusal.ensures, c.before.before.canvas-refusal.ensures)
+returns c = c.first.ensures ∙ rw (c.before.wide-refusal.ensures, c.before.before.canvas-refusal.ensures)
 
 pub width-refusal-spec : {M : Type 1} → statement M
 width-refusal-spec =
-    tie.close (tie.spec canvas-refusal-requires wide-refusal-requires first-of-requires returns)
+    tie.close (tie.spec canvas-refusal-requires wide-refusal-requires first-requires returns)

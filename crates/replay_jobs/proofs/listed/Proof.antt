@@ -5,10 +5,10 @@ use Rattle.replay_jobs.proofs.listed.Statement.{statement}
 use Rattle.replay_jobs.proofs.listed.Tie as tie
 
 abbrev invariant-loop : tie.invariant-loop
-invariant-loop dropped sum₀ i₀ sum i = i ≤ 64
+invariant-loop count dropped sum₀ i₀ sum i = i ≤ 64
 
 abbrev decreases-loop : tie.decreases-loop
-decreases-loop dropped sum₀ i₀ sum i = 64 - i
+decreases-loop count dropped sum₀ i₀ sum i = 64 - i
 
 loop-holds : tie.Need-loop-init invariant-loop decreases-loop
 loop-holds c = search rules
@@ -16,8 +16,8 @@ loop-holds c = search rules
 mul-d : tie.Need-overflow-mul-d invariant-loop decreases-loop
 mul-d c = search rules
 
-element-copy-out-d : tie.Need-element-copy-out-d invariant-loop decreases-loop
-element-copy-out-d c = search rules
+array-copy-out-d : tie.Need-array-copy-out-d invariant-loop decreases-loop
+array-copy-out-d c = search rules
 
 cast-sum-with : tie.Need-overflow-cast-sum-with invariant-loop decreases-loop
 cast-sum-with c = search rules
@@ -48,7 +48,7 @@ listed-spec =
     decreases-loop
     loop-holds
     mul-d
-    element-copy-out-d
+    array-copy-out-d
     cast-sum-with
     sum-with-requires
     sum-with-requires-2

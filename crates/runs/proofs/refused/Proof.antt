@@ -1,14 +1,12 @@
 -- `runs::refused` meets its contract. Assumes nothing.
 use mathlib.Core.Path.{refl}
-use borrow.Author.Rules.{rules}
+use Rattle.job.specs.Dropping.{filled_up}
 use Rattle.runs.proofs.refused.Statement.{statement}
 use Rattle.runs.proofs.refused.Tie as tie
 
-none-requires : tie.Need-none-requires
-none-requires c κs = search rules
-
 returns : tie.Need-returns
-returns c = rw c.none.ensures refl
+unfolding filled_up
+returns c = refl
 
 pub refused-spec : {M : Type 1} → statement M
-refused-spec = tie.close (tie.spec none-requires returns)
+refused-spec = tie.close (tie.spec returns)

@@ -1,5 +1,5 @@
 -- `colour::channel::blend_channel` meets its contract. Assumes nothing.
-use Rattle.std.proofs.Common.{◌+◌, ◌-◌, ◌*◌, ◌≤◌, ◌∙◌, mul-le-mul_right, add-sub_cancel, arith, rules}
+use Rattle.std.proofs.Common.{◌+◌, ◌-◌, ◌*◌, ◌≤◌, mul-le-mul_right, arith, rules}
 use Rattle.colour.specs.Channel.{blend_byte}
 use Rattle.colour.proofs.Laws.{by-256}
 use Rattle.colour.proofs.channel.blend_channel.Statement.{statement}
@@ -34,9 +34,7 @@ cast-result c = omega (arith, low c, high c)
 
 returns : tie.Need-returns
 unfolding blend_byte
-returns c =
-    let n = c.args.c * c.args.a + c.args.s * (255 - c.args.a) in
-    by-256 (n + 128) (omega (arith, low c, high c)) ∙ rw (add-sub_cancel n 128)
+returns c = by-256 (c.args.c * c.args.a + c.args.s * (255 - c.args.a)) (omega (arith, low c, high c))
 
 pub blend-channel-spec : {M : Type 1} → statement M
 blend-channel-spec =

@@ -2,8 +2,7 @@
 use Rattle.std.proofs.Common.{◌≡◌, ℕ, T, sym, refl, ap, ◌∙◌, subst, arith, rules}
 use lib.Ieee.{Float, binary32, mul, div, of_bits, of_int}
 use Rattle.colour.specs.Channel.{float, product, in_byte, round_away, multiply_byte}
-use Rattle.colour.proofs.Accurate.{product-in-byte}
-use Rattle.colour.proofs.Laws.{multiplied-channel}
+use Rattle.colour.proofs.Accurate.{product-in-byte, multiplied}
 use Rattle.colour.proofs.channel.multiply_channel.Statement.{statement}
 use Rattle.colour.proofs.channel.multiply_channel.Tie as tie
 
@@ -36,7 +35,7 @@ returns : tie.Need-returns
 unfolding multiply_byte
 returns c =
     let p = c.before.before.before.before.args in
-    multiplied-channel p.s p.c p.a (omega arith) (omega arith) (omega arith) (c.round-to-byte.ensures ∙ ap round_away (sym (as_written p.s p.c p.a)))
+    multiplied p.s p.c p.a c.round-to-byte.result (omega arith) (omega arith) (omega arith) (c.round-to-byte.ensures ∙ ap round_away (sym (as_written p.s p.c p.a)))
 
 pub multiply-channel-spec : {M : Type 1} → statement M
 multiply-channel-spec =

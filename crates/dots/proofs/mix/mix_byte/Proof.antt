@@ -1,8 +1,8 @@
 -- `dots::mix::mix_byte` meets its contract. Assumes nothing.
 use native.Mathlib.Omega.{arith}
 use native.Mathlib.Nat.{mul-le-mul_right}
-use Rattle.colour.proofs.Laws.{by-256}
-use Prim.Native.Nat.{◌+◌, ◌*◌, ◌≤◌}
+use borrow.Author.Rules.{rules}
+use Prim.Native.Nat.{◌*◌, ◌≤◌}
 use Rattle.dots.proofs.mix.mix_byte.Statement.{statement}
 use Rattle.dots.proofs.mix.mix_byte.Tie as tie
 
@@ -22,7 +22,7 @@ cast-result : tie.Need-overflow-cast-result
 cast-result c = omega (arith, low c)
 
 returns : tie.Need-returns
-returns c = by-256 (c.args.s * c.args.m + c.args.k) (omega (arith, low c))
+returns c = search rules
 
 pub mix-byte-spec : {M : Type 1} → statement M
 mix-byte-spec = tie.close (tie.spec mul-t add-t add-result cast-result returns)

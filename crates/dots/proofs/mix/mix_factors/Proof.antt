@@ -6,26 +6,26 @@ use borrow.Author.Rules.{rules}
 use Rattle.dots.proofs.mix.mix_factors.Statement.{statement}
 use Rattle.dots.proofs.mix.mix_factors.Tie as tie
 
-cast-lanes-of : tie.Need-overflow-cast-lanes-of
-cast-lanes-of c = search rules
+cast-lanes : tie.Need-overflow-cast-lanes
+cast-lanes c = search rules
 
-cast-lanes-of-2 : tie.Need-overflow-cast-lanes-of-2
-cast-lanes-of-2 c = search rules
+cast-lanes-2 : tie.Need-overflow-cast-lanes-2
+cast-lanes-2 c = search rules
 
-cast-lanes-of-3 : tie.Need-overflow-cast-lanes-of-3
-cast-lanes-of-3 c = search rules
+cast-lanes-3 : tie.Need-overflow-cast-lanes-3
+cast-lanes-3 c = search rules
 
-lanes-of-requires : tie.Need-lanes-of-requires
-lanes-of-requires c κs = search rules
+lanes-requires : tie.Need-lanes-requires
+lanes-requires c κs = search rules
 
 returns : tie.Need-returns
-returns c = c.lanes-of.ensures ∙ ap lanes (factors-multiplied _ c.before.before.before.before.if1.true)
+returns c = c.lanes.ensures ∙ ap lanes (factors-multiplied _ c.before.before.before.before.if1.true)
 
-lanes-of-requires-2 : tie.Need-lanes-of-requires-2
-lanes-of-requires-2 c κs = search rules
+lanes-requires-2 : tie.Need-lanes-requires-2
+lanes-requires-2 c κs = search rules
 
 returns-2 : tie.Need-returns-2
-returns-2 c = let g = c.before.before in c.lanes-of2.ensures ∙ ap lanes (factors-full _ g.before.if1.false c.before.if2.true)
+returns-2 c = let g = c.before.before in c.lanes2.ensures ∙ ap lanes (factors-full _ g.before.if1.false c.before.if2.true)
 
 cast_f : tie.Need-overflow-cast-f
 cast_f c = search rules
@@ -33,24 +33,24 @@ cast_f c = search rules
 sub-f : tie.Need-overflow-sub-f
 sub-f c = search rules
 
-lanes-of-requires-3 : tie.Need-lanes-of-requires-3
-lanes-of-requires-3 c κs = search rules
+lanes-requires-3 : tie.Need-lanes-requires-3
+lanes-requires-3 c κs = search rules
 
 returns-3 : tie.Need-returns-3
-returns-3 c = let g = c.before.before in c.lanes-of3.ensures ∙ ap lanes (factors-some _ g.before.before.if1.false g.if2.false)
+returns-3 c = let g = c.before.before in c.lanes3.ensures ∙ ap lanes (factors-some _ g.before.before.if1.false g.if2.false)
 
 pub mix-factors-spec : {M : Type 1} → statement M
 mix-factors-spec =
     tie.close
     (tie.spec
-    cast-lanes-of
-    cast-lanes-of-2
-    cast-lanes-of-3
-    lanes-of-requires
+    cast-lanes
+    cast-lanes-2
+    cast-lanes-3
+    lanes-requires
     returns
-    lanes-of-requires-2
+    lanes-requires-2
     returns-2
     cast_f
     sub-f
-    lanes-of-requires-3
+    lanes-requires-3
     returns-3)

@@ -1,47 +1,40 @@
 -- `images::formats::alpha_at` meets its contract. Assumes nothing.
-use mathlib.Core.Path.{◌≡◌, refl}
-use mathlib.Core.Bool.{false, true≢false}
-use mathlib.Core.List.{[], ◌∷◌}
-use mathlib.Core.Logic.{inl, inr}
-use Prim.Native.Nat.{◌+◌, ◌*◌, ◌<◌}
+use mathlib.Core.Path.{◌∙◌}
+use Prim.Native.Nat.{◌+◌, ◌*◌, ◌/◌, ◌<◌}
 use native.Mathlib.Omega.{arith}
 use lib.ListN.{length}
-use denote.Enum.Declared.{tag_of}
-use types.Run.{OneOf}
-use Rattle.images.specs.declared.formats.Format.{Format}
-use Rattle.images.specs.declared.formats.Format.TheVariants.{Bits, Alphas, Columns}
 use Rattle.images.specs.Formats.{alpha_of}
-use Rattle.images.specs.Steps.{is_bits}
 use Rattle.images.proofs.Places.{in_told}
 use borrow.Author.Rules.{rules}
-use Rattle.images.specs.contracts.formats.Format.{the_type}
 use Rattle.images.proofs.formats.alpha_at.Statement.{statement}
 use Rattle.images.proofs.formats.alpha_at.Tie as tie
-
--- what is left of the formats, by their numbers
-is-alphas : (f : Format) → is_bits f ≡ false → OneOf (0 ∷ 1 ∷ []) (tag_of the_type f) → f ≡ Alphas
-unfolding is_bits
-is-alphas Bits n t = absurd (true≢false n)
-is-alphas Alphas n t = refl
-is-alphas Columns n (inl e) = let z : ⊥ = omega (arith, e) in absurd z
-is-alphas Columns n (inr e) = let z : ⊥ = omega (arith, e) in absurd z
-
-alphas : (c : tie.At-match-keys2) → c.before.before.args.format ≡ Alphas
-alphas c = is-alphas c.before.before.args.format c.before.before.requires.0 c.match.keys2
-
-in-alphas : (c : tie.At-match-keys2)
-    → c.before.before.args.y * c.before.before.args.w + c.before.before.args.x < length c.before.before.args.«data».now
-in-alphas c =
-    let s = c.before.before in
-    in_told s.args.w s.args.h s.args.x s.args.y (alphas c) s.requires.1 s.requires.2 s.requires.3
 
 enum_told : tie.Need-enum-told
 enum_told c = search rules
 
-column-to-bytes-requires : tie.Need-column-to-bytes-requires
-column-to-bytes-requires c κs =
+in-bits : (c : tie.After-row-bytes)
+    → c.before.before.before.before.args.y * c.row-bytes.result + c.before.before.before.before.args.x / 8 < length c.before.before.before.before.args.«data».now
+in-bits c =
+    let s = c.before.before.before.before in
+    rw c.row-bytes.ensures (in_told s.args.w s.args.h s.args.x s.args.y c.before.enum_told.given.1 s.requires.2 s.requires.3 s.requires.4)
+
+in-alphas : (c : tie.After-enum-told2)
+    → c.before.before.before.args.y * c.before.before.before.args.w + c.before.before.before.args.x < length c.before.before.before.args.«data».now
+in-alphas c =
     let s = c.before.before.before in
-    in_told s.args.w s.args.h s.args.x s.args.y c.enum_told.given.1 s.requires.1 s.requires.2 s.requires.3
+    in_told s.args.w s.args.h s.args.x s.args.y c.enum-told2.given.1 s.requires.2 s.requires.3 s.requires.4
+
+row-bytes-requires : tie.Need-row-bytes-requires
+row-bytes-requires c κs = search rules
+
+mul-unpack-bytes : tie.Need-overflow-mul-unpack-bytes
+mul-unpack-bytes c = omega (arith, in-bits c)
+
+unpack-bytes-requires : tie.Need-unpack-bytes-requires
+unpack-bytes-requires c κs = in-bits c
+
+enum-told-2 : tie.Need-enum-told-2
+enum-told-2 c = search rules
 
 mul-result : tie.Need-overflow-mul-result
 mul-result c = omega (arith, in-alphas c)
@@ -52,22 +45,40 @@ add-result c = omega (arith, in-alphas c)
 shared-slice-read-result : tie.Need-shared-slice-read-result
 shared-slice-read-result c = in-alphas c.before
 
+enum-told-3 : tie.Need-enum-told-3
+enum-told-3 c = search rules
+
+column-to-bytes-requires : tie.Need-column-to-bytes-requires
+column-to-bytes-requires c κs =
+    let s = c.before.before.before in
+    (s.requires.1, omega arith, in_told s.args.w s.args.h s.args.x s.args.y c.enum-told3.given.1 s.requires.2 s.requires.3 s.requires.4)
+
 returns : tie.Need-returns
 unfolding alpha_of
-returns c = rw c.before.enum_told.given.1 c.column-to-bytes.ensures
+returns c = rw c.before.before.enum_told.given.1 (c.unpack-bytes.ensures ∙ rw c.before.row-bytes.ensures)
 
 returns-2 : tie.Need-returns-2
 unfolding alpha_of
-returns-2 c = rw (alphas c.before)
+returns-2 c = rw c.before.enum-told2.given.1
+
+returns-3 : tie.Need-returns-3
+unfolding alpha_of
+returns-3 c = rw c.before.enum-told3.given.1 c.column-to-bytes.ensures
 
 pub alpha-at-spec : {M : Type 1} → statement M
 alpha-at-spec =
     tie.close
     (tie.spec
     enum_told
-    column-to-bytes-requires
+    row-bytes-requires
+    mul-unpack-bytes
+    unpack-bytes-requires
+    enum-told-2
     mul-result
     add-result
     shared-slice-read-result
+    enum-told-3
+    column-to-bytes-requires
     returns
-    returns-2)
+    returns-2
+    returns-3)

@@ -11,7 +11,7 @@ row-bytes-requires : tie.Need-row-bytes-requires
 row-bytes-requires c κs = search rules
 
 known : (c : tie.After-row-bytes) → c.before.before.args.x * c.row-bytes.result + c.before.before.args.y / 8 < length c.before.before.args.«data».now
-known c = rw c.row-bytes.ensures c.before.before.requires
+known c = rw c.row-bytes.ensures c.before.before.requires.2
 
 mul-unpack-bytes : tie.Need-overflow-mul-unpack-bytes
 mul-unpack-bytes c = omega (arith, known c)

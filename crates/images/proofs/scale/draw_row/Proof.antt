@@ -1,10 +1,11 @@
 -- `images::scale::draw_row` meets its contract. Assumes nothing.
 use mathlib.Core.Path.{◌≡◌, sym, ◌∙◌}
-use mathlib.Core.Bool.{true, false}
+use mathlib.Core.Bool.{true}
 use native.Mathlib.Omega.{arith}
-use Rattle.images.specs.Steps.{is_bits, repeated}
+use Rattle.images.specs.Steps.{repeated}
 use Rattle.images.specs.declared.formats.Format.TheVariants.{Bits}
-use Rattle.images.proofs.Scaling.{is-bits, repeat-is-row, bits-in-data, bits-shown, bits-is-row}
+use Rattle.images.proofs.Sides.{sides}
+use Rattle.images.proofs.Scaling.{repeat-is-row, bits-in-data, bits-shown, bits-is-row}
 use borrow.Author.Rules.{rules}
 use Rattle.images.proofs.scale.draw_row.Statement.{statement}
 use Rattle.images.proofs.scale.draw_row.Tie as tie
@@ -17,14 +18,7 @@ abbrev bits-begun : tie.After-struct-known3 → tie.Start
 bits-begun c = c.before.before.before.before.before.before.before.before
 
 of-bits : (c : tie.After-struct-known3) → (bits-begun c).args.source.format ≡ Bits
-of-bits c = let t = c.before.before in is-bits (bits-begun c).args.source.format (sym t.before.is-bits.ensures ∙ t.if2.true)
-
--- where a row of another format is begun, and that it is one
-abbrev other-begun : tie.Else2 → tie.Start
-other-begun c = c.before.before.before.before.before.before
-
-of_other : (c : tie.Else2) → is_bits (other-begun c).args.source.format ≡ false
-of_other c = sym c.before.is-bits.ensures ∙ c.if2.false
+of-bits c = let t = c.before.before in t.before.is-bits.ensures t.if2.true
 
 repeats-requires : tie.Need-repeats-requires
 repeats-requires c κs = c.before.before.requires.0.fy
@@ -61,7 +55,7 @@ div-from : tie.Need-nonzero-div-from
 div-from c = search rules
 
 row-bytes-requires : tie.Need-row-bytes-requires
-row-bytes-requires c κs = search rules
+row-bytes-requires c κs = let s = bits-begun c in (sides s.args.source s.pre.0).0
 
 mul-from : tie.Need-overflow-mul-from
 mul-from c =
@@ -87,10 +81,7 @@ returns-2 c =
     bits-is-row (bits-begun b).args.source _ _ _ _ _ (of-bits b) r.row-bytes.ensures u.unpack-row.ensures
 
 plain-pixels-requires : tie.Need-plain-pixels-requires
-plain-pixels-requires c κs =
-    let o = c.before.before.before in
-    let s = other-begun o in
-    ((s.pre.0, of_other o, c.before.if3.true), s.pre.1.0)
+plain-pixels-requires c κs = search rules
 
 same-length-3 : tie.Need-same-length-3
 same-length-3 c = search rules
@@ -99,10 +90,7 @@ returns-3 : tie.Need-returns-3
 returns-3 c = search rules
 
 scale-pixels-requires : tie.Need-scale-pixels-requires
-scale-pixels-requires c κs =
-    let o = c.before.before.before in
-    let s = other-begun o in
-    ((s.pre.0, of_other o), s.pre.1.0)
+scale-pixels-requires c κs = search rules
 
 same-length-4 : tie.Need-same-length-4
 same-length-4 c = search rules

@@ -17,7 +17,7 @@ decreases-loop out₀ at «data» source j blend format w h y x₀ i₀ out x i 
 room : (c : tie.In-loop invariant-loop decreases-loop) → c.before.loop.i * 4 + 4 ≤ length c.before.loop.out
 room c =
     let s = c.before.before.before.before.before in
-    omega (arith, across-room _ _ _ _ _ _ c.before.loop.invariant c.loop-test.true s.requires.1.1, s.requires.0.2)
+    omega (arith, across-room _ _ _ _ _ _ c.before.loop.invariant c.loop-test.true s.requires.1.1, s.requires.0.1)
 
 div-y : tie.Need-nonzero-div-y invariant-loop decreases-loop
 div-y c = search rules
@@ -28,7 +28,7 @@ loop-holds c = across-start _ _ _ _ _ _
 alpha-at-requires : tie.Need-alpha-at-requires invariant-loop decreases-loop
 alpha-at-requires c κs =
     let b = c.before.before.before.before.before in
-    source-dot b.args.source b.requires.0.0 b.requires.1.0 c.loop-test.true b.requires.0.1
+    source-dot b.args.source b.requires.0.0 b.requires.1.0 c.loop-test.true
 
 with-alpha-requires : tie.Need-with-alpha-requires invariant-loop decreases-loop
 with-alpha-requires c κs = search rules
@@ -51,7 +51,7 @@ loop-again c =
     let i = w.before.before in
     let l = i.before in
     let s = l.before.before.before.before in
-    across-at _ _ _ _ _ _ (ap (λ (k : ℕ). l.loop.i + k) s.requires.0.2) (across-next _ _ _ _ _ _ l.loop.invariant i.loop-test.true w.before.alpha-at.ensures w.with-alpha.ensures (dot-block s.args.source.fx _ _ _ _ s.requires.0.2 (room i) c.before.before.land-dot.ensures))
+    across-at _ _ _ _ _ _ (ap (λ (k : ℕ). l.loop.i + k) s.requires.0.1) (across-next _ _ _ _ _ _ l.loop.invariant i.loop-test.true w.before.alpha-at.ensures w.with-alpha.ensures (dot-block s.args.source.fx _ _ _ _ s.requires.0.1 (room i) c.before.before.land-dot.ensures))
 
 same_length : tie.Need-same-length invariant-loop decreases-loop
 same_length c = search rules

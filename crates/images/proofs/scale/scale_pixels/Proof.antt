@@ -21,7 +21,7 @@ loop-holds c = across-start _ _ _ _ _ _
 alpha-at-requires : tie.Need-alpha-at-requires invariant-loop decreases-loop
 alpha-at-requires c κs =
     let b = c.before.before.before.before.before in
-    source-dot b.args.source b.requires.0.0 b.requires.1.0 c.loop-test.true b.requires.0.1
+    source-dot b.args.source b.requires.0 b.requires.1.0 c.loop-test.true
 
 with-alpha-requires : tie.Need-with-alpha-requires invariant-loop decreases-loop
 with-alpha-requires c κs = search rules

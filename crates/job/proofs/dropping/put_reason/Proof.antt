@@ -14,14 +14,14 @@ reached-requires c κs = search rules
 tall-refusal-requires : tie.Need-tall-refusal-requires
 tall-refusal-requires c κs = search rules
 
-first-of-requires : tie.Need-first-of-requires
-first-of-requires c κs = search rules
+first-requires : tie.Need-first-requires
+first-requires c κs = search rules
 
 side-refusal-requires : tie.Need-side-refusal-requires
 side-refusal-requires c κs = search rules
 
-first-of-requires-2 : tie.Need-first-of-requires-2
-first-of-requires-2 c κs = search rules
+first-requires-2 : tie.Need-first-requires-2
+first-requires-2 c κs = search rules
 
 returns : tie.Need-returns
 unfolding put_reason
@@ -30,7 +30,7 @@ returns c =
     let f = s.before in
     let t = f.before in
     let r = t.before in
-    c.first-of2.ensures ∙ rw (s.side-refusal.ensures, f.first_of.ensures, r.before.off-refusal.ensures, t.tall-refusal.ensures, r.reached.ensures)
+    c.first2.ensures ∙ rw (s.side-refusal.ensures, f.first.ensures, r.before.off-refusal.ensures, t.tall-refusal.ensures, r.reached.ensures)
 
 pub put-reason-spec : {M : Type 1} → statement M
 put-reason-spec =
@@ -39,7 +39,7 @@ put-reason-spec =
     off-refusal-requires
     reached-requires
     tall-refusal-requires
-    first-of-requires
+    first-requires
     side-refusal-requires
-    first-of-requires-2
+    first-requires-2
     returns)

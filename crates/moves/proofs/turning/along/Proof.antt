@@ -1,6 +1,6 @@
 -- `moves::turning::along` meets its contract. Assumes nothing.
 use borrow.Author.Rules.{rules}
-use Rattle.moves.specs.Steps.{counted_along}
+use Rattle.moves.specs.Steps.{along}
 use Rattle.moves.proofs.turning.along.Statement.{statement}
 use Rattle.moves.proofs.turning.along.Tie as tie
 
@@ -11,11 +11,11 @@ sub-result-2 : tie.Need-overflow-sub-result-2
 sub-result-2 c = search rules
 
 returns : tie.Need-returns
-unfolding counted_along
+unfolding along
 returns c = rw c.if1.true
 
 returns-2 : tie.Need-returns-2
-unfolding counted_along
+unfolding along
 returns-2 c = rw c.if1.false
 
 pub along-spec : {M : Type 1} → statement M

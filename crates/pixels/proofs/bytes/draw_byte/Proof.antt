@@ -15,7 +15,7 @@ mix-byte-requires c κs = omega arith
 returns : tie.Need-returns
 returns c =
     let z = c.before.before.before in
-    byte_full z.args.s z.args.c z.args.a c.before.before.if1.true
+    byte_full z.args.s z.args.c z.args.a (omega arith) (omega arith) c.before.before.if1.true
     (⊎_elim (λ e. absurd (true≢false (sym c.before.if2.true ∙ e))) (λ e. e) z.requires) c.mix-byte.ensures
 
 mul-scale-byte : tie.Need-overflow-mul-scale-byte

@@ -23,14 +23,14 @@ add-load-dot c = omega arith
 load-dot-requires : tie.Need-load-dot-requires invariant-loop decreases-loop
 load-dot-requires c κs = omega arith
 
-inks-of-requires : tie.Need-inks-of-requires invariant-loop decreases-loop
-inks-of-requires c κs = search rules
+inks-requires : tie.Need-inks-requires invariant-loop decreases-loop
+inks-requires c κs = search rules
 
 store-dot-requires : tie.Need-store-dot-requires invariant-loop decreases-loop
 store-dot-requires c κs = omega arith
 
-alphas-of-requires : tie.Need-alphas-of-requires invariant-loop decreases-loop
-alphas-of-requires c κs = search rules
+alphas-requires : tie.Need-alphas-requires invariant-loop decreases-loop
+alphas-requires c κs = search rules
 
 store-dot-requires-2 : tie.Need-store-dot-requires-2 invariant-loop decreases-loop
 store-dot-requires-2 c κs = omega arith
@@ -48,8 +48,8 @@ loop-again c =
     let g = d.before.before in
     let h = g.before.before in (
       omega arith,
-      spread-next _ _ _ _ (omega arith) h.loop.invariant.1 g.load-dot.ensures d.inks-of.ensures e.before.before.before.before.store-dot.ensures,
-      spread-next _ _ _ _ (omega arith) h.loop.invariant.2 g.load-dot.ensures e.alphas-of.ensures c.before.before.store-dot2.ensures,
+      spread-next _ _ _ _ (omega arith) h.loop.invariant.1 g.load-dot.ensures d.inks.ensures e.before.before.before.before.store-dot.ensures,
+      spread-next _ _ _ _ (omega arith) h.loop.invariant.2 g.load-dot.ensures e.alphas.ensures c.before.before.store-dot2.ensures,
     )
 
 same_length : tie.Need-same-length invariant-loop decreases-loop
@@ -72,9 +72,9 @@ spread-spec =
     loop-holds
     add-load-dot
     load-dot-requires
-    inks-of-requires
+    inks-requires
     store-dot-requires
-    alphas-of-requires
+    alphas-requires
     store-dot-requires-2
     add-i
     loop-less

@@ -7,10 +7,10 @@ use Rattle.replay_jobs.proofs.planned.rows_agree.Statement.{statement}
 use Rattle.replay_jobs.proofs.planned.rows_agree.Tie as tie
 
 abbrev invariant-loop : tie.invariant-loop
-invariant-loop plan job canvas space₀ other₀ ink wide sum₀ from₀ row₀ space other sum from row = (row ≤ plan.height) × (from ≤ length canvas) × (length space ≡ length space₀) × (length other ≡ length other₀)
+invariant-loop plan job canvas space₀ ink wide sum₀ from₀ row₀ space sum from row = (row ≤ plan.height) × (from ≤ length canvas) × (length space ≡ length space₀)
 
 abbrev decreases-loop : tie.decreases-loop
-decreases-loop plan job canvas space₀ other₀ ink wide sum₀ from₀ row₀ space other sum from row = plan.height - row
+decreases-loop plan job canvas space₀ ink wide sum₀ from₀ row₀ space sum from row = plan.height - row
 
 cast-wide : tie.Need-overflow-cast-wide invariant-loop decreases-loop
 cast-wide c = search rules
@@ -27,47 +27,17 @@ row-requires c κs = search rules
 same_length : tie.Need-same-length invariant-loop decreases-loop
 same_length c = search rules
 
-same-length-2 : tie.Need-same-length-2 invariant-loop decreases-loop
-same-length-2 c = search rules
-
 returns : tie.Need-returns invariant-loop decreases-loop
 returns c = search rules
 
 same-bytes-requires : tie.Need-same-bytes-requires invariant-loop decreases-loop
 same-bytes-requires c κs = search rules
 
-same-length-3 : tie.Need-same-length-3 invariant-loop decreases-loop
-same-length-3 c = search rules
-
-same-length-4 : tie.Need-same-length-4 invariant-loop decreases-loop
-same-length-4 c = search rules
+same-length-2 : tie.Need-same-length-2 invariant-loop decreases-loop
+same-length-2 c = search rules
 
 returns-2 : tie.Need-returns-2 invariant-loop decreases-loop
 returns-2 c = search rules
-
-list-agrees-requires : tie.Need-list-agrees-requires invariant-loop decreases-loop
-list-agrees-requires c κs = search rules
-
-same-length-5 : tie.Need-same-length-5 invariant-loop decreases-loop
-same-length-5 c = search rules
-
-same-length-6 : tie.Need-same-length-6 invariant-loop decreases-loop
-same-length-6 c = search rules
-
-returns-3 : tie.Need-returns-3 invariant-loop decreases-loop
-returns-3 c = search rules
-
-same-bytes-requires-2 : tie.Need-same-bytes-requires-2 invariant-loop decreases-loop
-same-bytes-requires-2 c κs = search rules
-
-same-length-7 : tie.Need-same-length-7 invariant-loop decreases-loop
-same-length-7 c = search rules
-
-same-length-8 : tie.Need-same-length-8 invariant-loop decreases-loop
-same-length-8 c = search rules
-
-returns-4 : tie.Need-returns-4 invariant-loop decreases-loop
-returns-4 c = search rules
 
 inked-requires : tie.Need-inked-requires invariant-loop decreases-loop
 inked-requires c κs = search rules
@@ -84,14 +54,11 @@ loop-less c = search rules
 loop-again : tie.Need-loop-preserved invariant-loop decreases-loop
 loop-again c = search rules
 
-same-length-9 : tie.Need-same-length-9 invariant-loop decreases-loop
-same-length-9 c = search rules
+same-length-3 : tie.Need-same-length-3 invariant-loop decreases-loop
+same-length-3 c = search rules
 
-same-length-10 : tie.Need-same-length-10 invariant-loop decreases-loop
-same-length-10 c = search rules
-
-returns-5 : tie.Need-returns-5 invariant-loop decreases-loop
-returns-5 c = search rules
+returns-3 : tie.Need-returns-3 invariant-loop decreases-loop
+returns-3 c = search rules
 
 pub rows-agree-spec : {M : Type 1} → statement M
 rows-agree-spec =
@@ -104,25 +71,14 @@ rows-agree-spec =
     loop-holds
     row-requires
     same_length
-    same-length-2
     returns
     same-bytes-requires
-    same-length-3
-    same-length-4
+    same-length-2
     returns-2
-    list-agrees-requires
-    same-length-5
-    same-length-6
-    returns-3
-    same-bytes-requires-2
-    same-length-7
-    same-length-8
-    returns-4
     inked-requires
     past-requires
     add_row
     loop-less
     loop-again
-    same-length-9
-    same-length-10
-    returns-5)
+    same-length-3
+    returns-3)

@@ -4,8 +4,8 @@ use Prim.Native.Nat.{◌-◌}
 use native.Mathlib.Omega.{arith}
 use lib.ListN.{length}
 use Rattle.job.proofs.Found.{found}
-use Rattle.job.proofs.Walk.{good, walk-bad, walk-sound}
-use Rattle.runs.proofs.Going.{Drawing, drawing-start, drawing-end, drawing-room, drawing-next}
+use Rattle.job.proofs.Walk.{good}
+use Rattle.runs.proofs.Going.{Drawing, drawing-start, drawing-bad, drawing-end, drawing-sound, drawing-room, drawing-next}
 use borrow.Author.Rules.{rules}
 use Rattle.runs.proofs.draw.draw_all.Statement.{statement}
 use Rattle.runs.proofs.draw.draw_all.Tie as tie
@@ -32,7 +32,7 @@ enum-known-kind : tie.Need-enum-known-kind invariant-loop decreases-loop
 enum-known-kind c = search rules
 
 command-at-requires : tie.Need-command-at-requires invariant-loop decreases-loop
-command-at-requires c κs = let l = c.before.before.before.before.loop in let e = (sym c.before.kind.given.1 ∙ c.before.before.before.next-record.ensures) in (omega (arith, found _ _ e), walk-sound _ l.at l.invariant e)
+command-at-requires c κs = let l = c.before.before.before.before.loop in let e = (sym c.before.kind.given.1 ∙ c.before.before.before.next-record.ensures) in (omega (arith, found _ _ e), drawing-sound _ _ _ l.height l.at c.before.before.before.before.before.before.before.before.before.requires.1 (good _ c.before.before.before.before.before.before.before.before.before.requires.0) l.invariant e)
 
 obey-requires : tie.Need-obey-requires invariant-loop decreases-loop
 obey-requires c κs = let l = c.before.before.before.before.before.before.loop in let p = drawing-room _ _ _ l.height l.at c.before.before.before.before.before.before.before.before.before.before.before.requires.1 (good _ c.before.before.before.before.before.before.before.before.before.before.before.requires.0) l.invariant (sym c.before.before.before.kind.given.1 ∙ c.before.before.before.before.before.next-record.ensures) c.before.command-at.ensures c.before.before.before.before.before.before.before.before.paper-width.ensures in (p.0, p.1, p.2)
@@ -50,7 +50,7 @@ same_length : tie.Need-same-length invariant-loop decreases-loop
 same_length c = omega arith
 
 returns : tie.Need-returns invariant-loop decreases-loop
-returns c = let l = c.before.before.before.loop in absurd (walk-bad _ l.at l.invariant (sym c.enum_told.given.1 ∙ c.before.before.next-record.ensures))
+returns c = let l = c.before.before.before.loop in absurd (drawing-bad _ _ _ l.height l.at c.before.before.before.before.before.before.before.before.requires.1 (good _ c.before.before.before.before.before.before.before.before.requires.0) l.invariant (sym c.enum_told.given.1 ∙ c.before.before.next-record.ensures))
 
 enum-told-2 : tie.Need-enum-told-2 invariant-loop decreases-loop
 enum-told-2 c = search rules

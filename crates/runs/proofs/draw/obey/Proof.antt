@@ -21,8 +21,8 @@ enum-known-c c = search rules
 rectangle-requires : tie.Need-rectangle-requires
 rectangle-requires c κs = let k = rectangle-kept _ _ (kept_of [] _ c.before.before.before.before.before.before.before.args.paper _ [] c.before.before.before.before.before.before.before.args.c c.before.before.before.before.command-reason.ensures c.before.before.before.if1.false) c.before.c.given.1 in omega (arith, k.on)
 
-place-entry-requires : tie.Need-place-entry-requires
-place-entry-requires c κs = rectangle-asks _ _ c.before.before.before.before.before.before.before.before.before.args.paper _ [] c.before.before.before.before.before.before.before.before.before.args.c c.before.before.before.before.before.before.command-reason.ensures c.before.before.before.before.before.if1.false c.before.before.before.before.before.before.before.before.before.requires.0 c.before.before.before.c.given.1 c.before.before.before.before.before.before.before.before.before.requires.2 c.before.rectangle.ensures
+place-requires : tie.Need-place-requires
+place-requires c κs = rectangle-asks _ _ c.before.before.before.before.before.before.before.before.before.args.paper _ [] c.before.before.before.before.before.before.before.before.before.args.c c.before.before.before.before.before.before.command-reason.ensures c.before.before.before.before.before.if1.false c.before.before.before.before.before.before.before.before.before.requires.0 c.before.before.before.c.given.1 c.before.before.before.before.before.before.before.before.before.requires.2 c.before.rectangle.ensures
 
 enum-known-c-2 : tie.Need-enum-known-c-2
 enum-known-c-2 c = search rules
@@ -30,8 +30,8 @@ enum-known-c-2 c = search rules
 image-requires : tie.Need-image-requires
 image-requires c κs = let k = (stretched-kept _ _ (kept_of [] _ c.before.before.before.before.before.before.before.args.paper _ [] c.before.before.before.before.before.before.before.args.c c.before.before.before.before.command-reason.ensures c.before.before.before.if1.false) c.before.c2.given.1).put in omega (arith, k.on, k.wide, k.high)
 
-place-entry-requires-2 : tie.Need-place-entry-requires-2
-place-entry-requires-2 c κs = image-asks _ _ c.before.before.before.before.before.before.before.before.before.args.paper _ [] c.before.before.before.before.before.before.before.before.before.args.c c.before.before.before.before.before.before.command-reason.ensures c.before.before.before.before.before.if1.false c.before.before.before.before.before.before.before.before.before.requires.0 c.before.before.before.c2.given.1 c.before.before.before.before.before.before.before.before.before.requires.2 (omega arith) (omega arith) c.before.image.ensures
+place-requires-2 : tie.Need-place-requires-2
+place-requires-2 c κs = image-asks _ _ c.before.before.before.before.before.before.before.before.before.args.paper _ [] c.before.before.before.before.before.before.before.before.before.args.c c.before.before.before.before.before.before.command-reason.ensures c.before.before.before.before.before.if1.false c.before.before.before.before.before.before.before.before.before.requires.0 c.before.before.before.c2.given.1 c.before.before.before.before.before.before.before.before.before.requires.2 (omega arith) (omega arith) c.before.image.ensures
 
 enum-known-c-3 : tie.Need-enum-known-c-3
 enum-known-c-3 c = search rules
@@ -79,13 +79,13 @@ same_length : tie.Need-same-length
 same_length c = search rules
 
 returns-2 : tie.Need-returns-2
-returns-2 c = step_in _ _ _ _ _ _ c.before.before.before.before.before.before.before.before.before.command-reason.ensures c.before.before.before.before.before.before.before.before.if1.false c.before.before.before.before.before.before.c.given.1 (rectangle-obeyed _ _ _ _ _ c.before.before.place-entry.ensures.0 c.before.before.place-entry.ensures.1 _ _ _ _ _ _ c.before.before.before.before.rectangle.ensures)
+returns-2 c = step_in _ _ _ _ _ _ c.before.before.before.before.before.before.before.before.before.command-reason.ensures c.before.before.before.before.before.before.before.before.if1.false c.before.before.before.before.before.before.c.given.1 (rectangle-obeyed _ _ _ _ _ c.before.before.place.ensures.0 c.before.before.place.ensures.1 _ _ _ _ _ _ c.before.before.before.before.rectangle.ensures)
 
 same-length-2 : tie.Need-same-length-2
 same-length-2 c = search rules
 
 returns-3 : tie.Need-returns-3
-returns-3 c = step_in _ _ _ _ _ _ c.before.before.before.before.before.before.before.before.before.command-reason.ensures c.before.before.before.before.before.before.before.before.if1.false c.before.before.before.before.before.before.c2.given.1 (image-obeyed _ _ _ _ _ c.before.before.place-entry2.ensures.0 c.before.before.place-entry2.ensures.1 _ _ _ _ _ _ _ _ _ _ c.before.before.before.before.image.ensures)
+returns-3 c = step_in _ _ _ _ _ _ c.before.before.before.before.before.before.before.before.before.command-reason.ensures c.before.before.before.before.before.before.before.before.if1.false c.before.before.before.before.before.before.c2.given.1 (image-obeyed _ _ _ _ _ c.before.before.place2.ensures.0 c.before.before.place2.ensures.1 _ _ _ _ _ _ _ _ _ _ c.before.before.before.before.image.ensures)
 
 same-length-3 : tie.Need-same-length-3
 same-length-3 c = search rules
@@ -107,10 +107,10 @@ obey-spec =
     returns
     enum-known-c
     rectangle-requires
-    place-entry-requires
+    place-requires
     enum-known-c-2
     image-requires
-    place-entry-requires-2
+    place-requires-2
     enum-known-c-3
     mul-move-down
     cast-move-down

@@ -9,11 +9,11 @@ use Rattle.runs.proofs.survey.look_at.Tie as tie
 command-reason-requires : tie.Need-command-reason-requires
 command-reason-requires c κs = search rules
 
-push-requires : tie.Need-push-requires
-push-requires c κs = search rules
+leave-out-requires : tie.Need-leave-out-requires
+leave-out-requires c κs = search rules
 
 returns : tie.Need-returns
-returns c = seen-out _ _ _ _ c.before.before.before.command-reason.ensures c.before.before.if1.true c.push.ensures
+returns c = seen-out _ _ _ _ c.before.before.command-reason.ensures c.before.if1.true c.leave-out.ensures
 
 height-after-requires : tie.Need-height-after-requires
 height-after-requires c κs = after-fits _ _ _ (sym c.before.command-reason.ensures ∙ c.if1.false)
@@ -24,4 +24,4 @@ returns-2 c = seen-in _ _ _ _ c.before.before.command-reason.ensures c.before.if
 pub look-at-spec : {M : Type 1} → statement M
 look-at-spec =
     tie.close
-    (tie.spec command-reason-requires push-requires returns height-after-requires returns-2)
+    (tie.spec command-reason-requires leave-out-requires returns height-after-requires returns-2)

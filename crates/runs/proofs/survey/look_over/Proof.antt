@@ -1,11 +1,11 @@
 -- `runs::survey::look_over` meets its contract. Assumes nothing.
-use mathlib.Core.Path.{refl, sym, ◌∙◌}
+use mathlib.Core.Path.{sym, ◌∙◌}
 use Prim.Native.Nat.{◌-◌}
 use native.Mathlib.Omega.{arith}
 use lib.ListN.{length}
 use Rattle.job.proofs.Found.{found}
-use Rattle.job.proofs.Walk.{good, walk_start, walk-bad, walk_end, walk-sound}
-use Rattle.runs.proofs.Going.{Surveyed, surveyed-few, surveyed-room, surveyed-next}
+use Rattle.job.proofs.Walk.{good}
+use Rattle.runs.proofs.Going.{Surveyed, surveyed-start, surveyed-bad, surveyed-end, surveyed-sound, surveyed-few, surveyed-room, surveyed-next}
 use borrow.Author.Rules.{rules}
 use Rattle.runs.proofs.survey.look_over.Statement.{statement}
 use Rattle.runs.proofs.survey.look_over.Tie as tie
@@ -23,7 +23,7 @@ nothing-requires : tie.Need-nothing-requires invariant-loop decreases-loop
 nothing-requires c κs = search rules
 
 loop-holds : tie.Need-loop-init invariant-loop decreases-loop
-loop-holds c = walk_start _ (good _ c.before.before.before.requires) (refl, c.nothing.ensures)
+loop-holds c = surveyed-start _ (good _ c.before.before.before.requires) c.nothing.ensures
 
 next-record-requires : tie.Need-next-record-requires invariant-loop decreases-loop
 next-record-requires c κs = search rules
@@ -32,7 +32,7 @@ enum-known-kind : tie.Need-enum-known-kind invariant-loop decreases-loop
 enum-known-kind c = search rules
 
 command-at-requires : tie.Need-command-at-requires invariant-loop decreases-loop
-command-at-requires c κs = let l = c.before.before.before.before.loop in let e = (sym c.before.kind.given.1 ∙ c.before.before.before.next-record.ensures) in (omega (arith, found _ _ e), walk-sound _ l.at l.invariant e)
+command-at-requires c κs = let l = c.before.before.before.before.loop in let e = (sym c.before.kind.given.1 ∙ c.before.before.before.next-record.ensures) in (omega (arith, found _ _ e), surveyed-sound _ l.v l.k l.at l.invariant e)
 
 look-at-requires : tie.Need-look-at-requires invariant-loop decreases-loop
 look-at-requires c κs = let l = c.before.before.before.before.before.loop in surveyed-room _ l.v l.k l.at l.invariant (sym c.before.before.kind.given.1 ∙ c.before.before.before.before.next-record.ensures)
@@ -50,13 +50,13 @@ enum_told : tie.Need-enum-told invariant-loop decreases-loop
 enum_told c = search rules
 
 returns : tie.Need-returns invariant-loop decreases-loop
-returns c = let l = c.before.before.before.loop in absurd (walk-bad _ l.at l.invariant (sym c.enum_told.given.1 ∙ c.before.before.next-record.ensures))
+returns c = let l = c.before.before.before.loop in absurd (surveyed-bad _ l.v l.k l.at l.invariant (sym c.enum_told.given.1 ∙ c.before.before.next-record.ensures))
 
 enum-told-2 : tie.Need-enum-told-2 invariant-loop decreases-loop
 enum-told-2 c = search rules
 
 returns-2 : tie.Need-returns-2 invariant-loop decreases-loop
-returns-2 c = let l = c.before.before.before.loop in (walk_end _ l.at l.invariant (sym c.enum-told2.given.1 ∙ c.before.before.next-record.ensures)).1
+returns-2 c = let l = c.before.before.before.loop in surveyed-end _ l.v l.k l.at l.invariant (sym c.enum-told2.given.1 ∙ c.before.before.next-record.ensures)
 
 pub look-over-spec : {M : Type 1} → statement M
 look-over-spec =

@@ -6,30 +6,21 @@ use lib.ListN.{length}
 use Rattle.numbers.proofs.Sides.{area}
 use Rattle.thermal_image.specs.Canvas.{rgb, rgb_on}
 use Rattle.refusals.proofs.Codes.{Sound, rgb-done}
-use Rattle.thermal_image.proofs.Answers.{kept, changed}
+use Rattle.thermal_image.proofs.Answers.{kept, changed, rgb-refused, rgb-did}
 use borrow.Author.Rules.{rules}
 use Rattle.thermal_image.proofs.ThermalImage.consume_rgb_u8.Statement.{statement}
 use Rattle.thermal_image.proofs.ThermalImage.consume_rgb_u8.Tie as tie
 
-got : (c : tie.Else1) → let p = c.before.before.before.before.before.before.args in
+got : (c : tie.Else1) → let p = c.before.before.before.before.args in
     Sound p.self.width p.self.height (length p.buf.now) × (3 * (p.self.width * p.self.height) ≤ length p.out.now)
-got c = rgb-done _ _ _ _ (sym c.before.before.before.rgb-refusal.ensures ∙ c.if1.false)
+got c = rgb-done _ _ _ _ (sym c.before.rgb-refusal.ensures ∙ c.if1.false)
 
 rgb-refusal-requires : tie.Need-rgb-refusal-requires
 rgb-refusal-requires c κs = search rules
 
-sized-requires : tie.Need-sized-requires
-sized-requires c κs = search rules
-
-written-out-requires : tie.Need-written-out-requires
-written-out-requires c κs = search rules
-
 returns : tie.Need-returns
 unfolding rgb rgb_on
-returns c =
-    let t = c.before in
-    let g = t.before.before.before.rgb-refusal.ensures in
-    (c.written_out.ensures ∙ rw (t.before.before.sized.ensures, g), kept g _ _ t.if1.true)
+returns c = let g = c.before.rgb-refusal.ensures in (rgb-refused g _ c.if1.true, kept g _ _ c.if1.true)
 
 cast-dots : tie.Need-overflow-cast-dots
 cast-dots c = search rules
@@ -43,8 +34,8 @@ mul-dots c = let s = (got c.before.before).0 in omega (arith, area s.width s.hei
 rgb-bytes-requires : tie.Need-rgb-bytes-requires
 rgb-bytes-requires c κs = let g = got c.before.before.before in (omega (arith, g.0.room), omega (arith, g.1))
 
-written-out-requires-2 : tie.Need-written-out-requires-2
-written-out-requires-2 c κs = search rules
+sized-requires : tie.Need-sized-requires
+sized-requires c κs = search rules
 
 same_length : tie.Need-same-length
 same_length c = search rules
@@ -52,23 +43,21 @@ same_length c = search rules
 returns-2 : tie.Need-returns-2
 unfolding rgb rgb_on
 returns-2 c =
-    let f = c.before.before.before in
+    let f = c.before.before.before.before in
     let d = f.before.before.before.before in
-    let g = d.before.before.before.rgb-refusal.ensures in
-    (c.written-out2.ensures ∙ rw (d.before.before.sized.ensures, ← g, d.if1.false), changed g _ _ d.if1.false f.rgb-bytes.ensures)
+    let g = d.before.rgb-refusal.ensures in
+    (rgb-did g _ d.if1.false c.before.sized.ensures, changed g _ _ d.if1.false f.rgb-bytes.ensures)
 
 pub consume-rgb-u8-spec : {M : Type 1} → statement M
 consume-rgb-u8-spec =
     tie.close
     (tie.spec
     rgb-refusal-requires
-    sized-requires
-    written-out-requires
     returns
     cast-dots
     cast-dots-2
     mul-dots
     rgb-bytes-requires
-    written-out-requires-2
+    sized-requires
     same_length
     returns-2)

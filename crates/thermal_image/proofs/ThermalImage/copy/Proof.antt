@@ -6,7 +6,7 @@ use lib.ListN.{length}
 use Rattle.numbers.proofs.Sides.{area}
 use Rattle.thermal_image.specs.Canvas.{copied, copied_on}
 use Rattle.refusals.proofs.Codes.{Sound, out-done}
-use Rattle.thermal_image.proofs.Answers.{kept, changed}
+use Rattle.thermal_image.proofs.Answers.{kept, changed, copy-refused, copy-did}
 use borrow.Author.Rules.{rules}
 use Rattle.thermal_image.proofs.ThermalImage.copy.Statement.{statement}
 use Rattle.thermal_image.proofs.ThermalImage.copy.Tie as tie
@@ -18,12 +18,9 @@ got c = out-done _ _ _ _ (sym c.before.out-refusal.ensures ∙ c.if1.false)
 out-refusal-requires : tie.Need-out-refusal-requires
 out-refusal-requires c κs = search rules
 
-written-out-requires : tie.Need-written-out-requires
-written-out-requires c κs = search rules
-
 returns : tie.Need-returns
 unfolding copied copied_on
-returns c = let t = c.before in let g = t.before.out-refusal.ensures in (c.written_out.ensures ∙ rw g, kept g _ _ t.if1.true)
+returns c = let g = c.before.out-refusal.ensures in (copy-refused g _ c.if1.true, kept g _ _ c.if1.true)
 
 cast-dots : tie.Need-overflow-cast-dots
 cast-dots c = search rules
@@ -37,31 +34,26 @@ mul-dots c = let s = (got c.before.before).0 in omega (arith, area s.width s.hei
 copy-dots-requires : tie.Need-copy-dots-requires
 copy-dots-requires c κs = let g = got c.before.before.before in (omega (arith, g.0.room), omega (arith, g.1))
 
-written-out-requires-2 : tie.Need-written-out-requires-2
-written-out-requires-2 c κs = search rules
-
 same_length : tie.Need-same-length
 same_length c = search rules
 
 returns-2 : tie.Need-returns-2
 unfolding copied copied_on
 returns-2 c =
-    let f = c.before.before.before in
+    let f = c.before.before in
     let d = f.before.before.before.before in
     let g = d.before.out-refusal.ensures in
-    (c.written-out2.ensures ∙ rw (← g, d.if1.false), changed g _ _ d.if1.false f.copy-dots.ensures)
+    (copy-did g _ d.if1.false, changed g _ _ d.if1.false f.copy-dots.ensures)
 
 pub copy_spec : {M : Type 1} → statement M
 copy_spec =
     tie.close
     (tie.spec
     out-refusal-requires
-    written-out-requires
     returns
     cast-dots
     cast-dots-2
     mul-dots
     copy-dots-requires
-    written-out-requires-2
     same_length
     returns-2)

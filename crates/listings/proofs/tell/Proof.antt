@@ -1,0 +1,18 @@
+-- `listings::tell` meets its contract. Assumes nothing.
+use native.Mathlib.Omega.{arith}
+use lib.ListN.{length-take}
+use borrow.Author.Rules.{rules}
+use Rattle.listings.proofs.tell.Statement.{statement}
+use Rattle.listings.proofs.tell.Tie as tie
+
+slice-aggregate-write-all : tie.Need-slice-aggregate-write-all
+slice-aggregate-write-all c = simp length-take (omega arith)
+
+write-all-requires : tie.Need-write-all-requires
+write-all-requires c κs = search rules
+
+returns : tie.Need-returns
+returns c = search rules
+
+pub tell-spec : {M : Type 1} → statement M
+tell-spec = tie.close (tie.spec slice-aggregate-write-all write-all-requires returns)

@@ -1,0 +1,13 @@
+-- `refusals::first` meets its contract. Assumes nothing.
+use Rattle.refusals.proofs.Codes.{first_some, first-none}
+use Rattle.refusals.proofs.first.Statement.{statement}
+use Rattle.refusals.proofs.first.Tie as tie
+
+returns : tie.Need-returns
+returns c = first_some _ _ c.if1.true
+
+returns-2 : tie.Need-returns-2
+returns-2 c = first-none _ _ c.if1.false
+
+pub first_spec : {M : Type 1} → statement M
+first_spec = tie.close (tie.spec returns returns-2)
