@@ -1,5 +1,7 @@
 // Areas of dots on a canvas that lies in a lent buffer, row by row. Inner steps, each over an area
 // that its caller knows to lie on the canvas.
+#![tactic(auto)]
+
 mod border;
 mod draw;
 mod flip;

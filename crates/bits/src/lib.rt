@@ -1,5 +1,7 @@
 // Rows of bits as dots of a lent buffer: eight dots at a time, or bit by bit where each is stretched.
 // Inner steps, each over dots and bits that its caller knows to be there.
+#![tactic(auto)]
+
 mod bit;
 mod stamp;
 mod unpack;

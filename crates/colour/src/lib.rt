@@ -1,5 +1,7 @@
 // Colour: a pixel and what one does to another, as in the Rust's graphics.rs, and the colours
 // that an image's layers name, as in its context.rs. Values go in and values come out.
+#![tactic(auto)]
+
 pub mod channel;
 
 ghost use Rattle.std.specs.Prelude.{◌≡◌, ◌⊎◌};
@@ -9,7 +11,7 @@ use channel::{blend_channel, multiply_channel};
 
 // A pixel: red, green, blue, and how opaque it is.
 #[repr(C)]
-#[derive(Drop)]
+#[derive(Clone, Copy)]
 pub struct RGBA {
     pub r: u8,
     pub g: u8,
@@ -114,7 +116,7 @@ impl RGBA {
 
 // The colours that an image's layers name by number.
 #[repr(C)]
-#[derive(Drop)]
+#[derive(Clone, Copy)]
 pub struct RenderColors {
     pub paper_color: RGBA,
     pub color_1: RGBA,

@@ -1,5 +1,7 @@
 // Dots of a lent byte buffer: dot i is the four bytes r, g, b, a from 4·i. Inner steps, each over
 // the whole buffer and dots that its caller knows to lie in it.
+#![tactic(auto)]
+
 mod dot;
 mod draw;
 mod fill;

@@ -1,5 +1,7 @@
 // Drawing on the canvas, as in the Rust's thermal_image.rs: puts, rectangles, images, flips and
 // the border. A refusal hands the canvas back as it was given, and writes to no buffer.
+#![tactic(auto)]
+
 mod border;
 mod flip;
 mod put;

@@ -1,5 +1,7 @@
 // One entry of a row plan: a rectangle or an image, cropped and in its place, and how it is drawn on
 // rows of dots. The run, the plan and the lent list all draw by `draw_entry`.
+#![tactic(auto)]
+
 mod image;
 mod rules;
 
@@ -20,7 +22,7 @@ pub use rules::good_entry;
 // Kind and mode are the job's numbers. A rectangle has zeros from the stretch on; the bit rows of an
 // image stand in the job's bytes from `start` on.
 #[repr(C)]
-#[derive(Drop)]
+#[derive(Clone, Copy)]
 pub struct Entry {
     pub kind: u8,
     pub mode: u8,

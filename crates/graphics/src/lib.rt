@@ -1,5 +1,7 @@
 // Decoding of printer images, as in the Rust's graphics.rs: raster, column and layered images
 // become dots in an output that the caller lends.
+#![tactic(auto)]
+
 mod layers;
 mod refusals;
 
@@ -17,7 +19,7 @@ use refusals::{layers_refusal, refusal_of};
 
 // What a decoder answers: the number, and the stretched width and height.
 #[repr(C)]
-#[derive(Drop)]
+#[derive(Clone, Copy)]
 pub struct Decoded {
     pub number: u8,
     pub w: u32,

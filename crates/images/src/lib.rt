@@ -1,5 +1,7 @@
 // Images of one colour: what their data say, and their dots put on an output or blended onto it.
 // Inner steps of decoding, jobs and plans.
+#![tactic(auto)]
+
 mod formats;
 mod scale;
 mod sizes;

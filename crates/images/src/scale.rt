@@ -11,7 +11,7 @@ use dots::{draw_run, fill_run, get_dot, set_dot};
 use moves::move_run;
 
 // An image but for its data: its format, its sides, the stretch of each, and its colour.
-#[derive(Drop)]
+#[derive(Clone, Copy)]
 pub struct Source {
     pub format: Format,
     pub w: usize,

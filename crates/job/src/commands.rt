@@ -10,7 +10,7 @@ use super::kinds::{
 use colour::RGBA;
 use numbers::LIMIT;
 
-#[derive(Drop)]
+#[derive(Clone, Copy)]
 pub enum Command {
     Rectangle {
         x: u32,

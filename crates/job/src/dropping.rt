@@ -12,7 +12,7 @@ use refusals::{across_refusal, empty_refusal, first, off_refusal, side_refusal, 
 
 // A dropped command: the first after the paper has place 0.
 #[repr(C)]
-#[derive(Drop)]
+#[derive(Clone, Copy)]
 pub struct Dropped {
     pub place: u32,
     pub reason: u8,

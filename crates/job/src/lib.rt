@@ -1,5 +1,7 @@
 // Jobs: the bytes of a strip as records, and those as commands; what a job is refused for, and what
 // a command is dropped for. What a job draws is told elsewhere.
+#![tactic(auto)]
+
 mod bytes;
 mod commands;
 mod dropping;

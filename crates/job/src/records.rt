@@ -7,7 +7,7 @@ use super::kinds::{HEAD_SIZE, KIND_SIZE, LENGTH_SIZE};
 
 // A record's body is `size` bytes from `start` on, and what follows it stands at `next`. `Bad` is
 // bytes that are no record.
-#[derive(Drop)]
+#[derive(Clone, Copy)]
 pub enum Rec {
     Record {
         kind: u16,

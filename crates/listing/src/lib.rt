@@ -1,4 +1,6 @@
 // The listing: the text of its lines, and which jobs it takes. Document 01, "The listing".
+#![tactic(auto)]
+
 mod writing;
 
 ghost use Rattle.std.specs.Prelude.{◌≡◌, length};
@@ -13,7 +15,7 @@ pub const MOST_BYTES: usize = 32768;
 
 // What a line answers: the number, and how many bytes the text has.
 #[repr(C)]
-#[derive(Drop)]
+#[derive(Clone, Copy)]
 pub struct Written {
     pub number: u8,
     pub size: usize,

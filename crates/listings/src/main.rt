@@ -1,4 +1,6 @@
 // Lists stored jobs, one after another, as strip does; a program has one stored input of its own.
+#![tactic(auto)]
+
 ghost use Rattle.std.specs.Prelude.{◌≤◌, length};
 
 use libc::STDOUT_FILENO;

@@ -1,5 +1,7 @@
 // The row of a list of entries that the caller lends, by the same functions for one entry as the row
 // of a plan: what is good is told by `good_entry`, and what is drawn by `draw_entry`.
+#![tactic(auto)]
+
 ghost use Rattle.std.specs.Prelude.{◌≡◌, true, ◌&&◌, [], ◌*◌, ◌≤◌, length};
 ghost use Rattle.numbers.specs.Numbers.{limit, done};
 ghost use Rattle.entries.specs.Entries.{good_entry};

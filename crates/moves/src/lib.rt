@@ -1,5 +1,7 @@
 // Whole pictures of dots, moved within a lent buffer or written to a second one. Inner steps, each
 // over buffers that its caller knows to be long enough.
+#![tactic(auto)]
+
 mod copy;
 mod lower;
 mod rgb;

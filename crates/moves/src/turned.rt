@@ -1,5 +1,5 @@
 // How far a picture is turned, clockwise.
-#[derive(Drop)]
+#[derive(Clone, Copy)]
 pub enum Turn {
     Quarter,
     Half,

@@ -1,5 +1,7 @@
 // The numbers that an entry can give, and the largest side: document 01's table. Beside them the
 // smaller and the larger of two numbers.
+#![tactic(auto)]
+
 mod order;
 
 pub use order::{larger, larger_side, smaller, smaller_side};

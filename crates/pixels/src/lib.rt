@@ -1,5 +1,7 @@
 // Pixels of an image drawn on a run of dots, blending or multiplying. Inner steps, over dots and
 // pixels that their caller knows to be there.
+#![tactic(auto)]
+
 mod bytes;
 mod cover;
 mod crisp;

@@ -1,5 +1,7 @@
 // Where drawing lands on the canvas: what cropping leaves, the height that it comes to, and what it
 // is refused for, from the record, sizes and lengths alone. Inner steps, which take any numbers.
+#![tactic(auto)]
+
 mod rules;
 mod sizes;
 

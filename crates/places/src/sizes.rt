@@ -6,7 +6,7 @@ use numbers::{larger, smaller_side};
 use thermal_image::ThermalImage;
 
 // What is left of an image that is cropped, or all of one that is not.
-#[derive(Drop)]
+#[derive(Clone, Copy)]
 pub struct Crop {
     pub w: u32,
     pub h: u32,

@@ -1,4 +1,6 @@
 // Row plans: a job without flips, translated to entries from which any row can be worked out alone.
+#![tactic(auto)]
+
 mod steps;
 
 ghost use Rattle.std.specs.Prelude.{◌≡◌, false, []};
@@ -17,7 +19,7 @@ use steps::step;
 // The first `count` entries are used, and the first `dropped_count` dropped commands; all other
 // places are zero.
 #[repr(C)]
-#[derive(Drop)]
+#[derive(Clone, Copy)]
 pub struct Plan {
     pub width: u32,
     pub height: u32,
@@ -29,7 +31,7 @@ pub struct Plan {
 }
 
 #[repr(C)]
-#[derive(Drop)]
+#[derive(Clone, Copy)]
 pub struct Translated {
     pub number: u8,
     pub plan: Plan,

@@ -1,6 +1,8 @@
 // What the canvas's own operations are refused for, from sizes and lengths alone: of a canvas w by h
 // whose buffer has n bytes. A job's commands are dropped for the same height, and its run is refused
 // for the same room. Inner steps, which take any numbers.
+#![tactic(auto)]
+
 mod drawn;
 
 ghost use Rattle.std.specs.Prelude.{◌≡◌};

@@ -1,6 +1,8 @@
 // Replays the fixed lists of the canvas's histories, and says of each how many lines agree with this
 // project and how many do not. A line is 167 bytes at fixed places, one call. Each finds two buffers
 // as the line before leaves them; one holds the canvas, the other is written out to.
+#![tactic(auto)]
+
 mod calls;
 mod drawn;
 mod record;

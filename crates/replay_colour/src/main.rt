@@ -1,6 +1,8 @@
 // Replays the fixed list of colour's answers, and says how many of its lines agree with this
 // project and how many do not. A line is `K DDDDDDDD CCCCCCCC XX RRRRRRRR`: an operation, a dot, a
 // colour, an alpha or a colour number, and the original's answer.
+#![tactic(auto)]
+
 use vectors::COLORS;
 use vectors::hex::{byte_at, color_at, same_color};
 use vectors::lines::{Tally, line_end};

@@ -1,5 +1,7 @@
 // Replays the fixed lists of the decoders' answers, and says of each how many lines agree with this
 // project and how many do not. A line is a head of fixed places, and then its data.
+#![tactic(auto)]
+
 ghost use Rattle.std.specs.Prelude.{◌≤◌, length};
 
 use graphics::Decoded;

@@ -1,6 +1,8 @@
 // Replays the fixed lists of jobs, and says of each how many lines agree with this project and how
 // many do not: in what a run gives and leaves in its buffer, and in the rows of the plan. A line is
 // a head of fixed places, and then the job.
+#![tactic(auto)]
+
 mod planned;
 
 ghost use Rattle.std.specs.Prelude.{◌≤◌, length};

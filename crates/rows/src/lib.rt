@@ -1,5 +1,7 @@
 // The rows of a plan: paper, with the plan's entries applied in order. A row is worked out alone, with
 // its ink, or some rows at once.
+#![tactic(auto)]
+
 ghost use Rattle.std.specs.Prelude.{◌≡◌, true, ◌+◌, ◌*◌, ◌≤◌, length};
 ghost use Rattle.numbers.specs.Numbers.{limit, done};
 ghost use Rattle.colour.specs.Choice.{if◌then◌else◌};
@@ -15,7 +17,7 @@ use plan::Plan;
 
 // What a row answers: the number, and how many of its dots have ink.
 #[repr(C)]
-#[derive(Drop)]
+#[derive(Clone, Copy)]
 pub struct RowAnswer {
     pub number: u8,
     pub ink: u32,

@@ -1,4 +1,6 @@
 // A job run on a canvas, command by command, in the buffer that the caller lends.
+#![tactic(auto)]
+
 mod draw;
 mod survey;
 
@@ -16,7 +18,7 @@ use thermal_image::ThermalImage;
 // What a run answers: the number, the canvas, and the dropped commands, which are the first
 // `dropped_count`. All other places are zero.
 #[repr(C)]
-#[derive(Drop)]
+#[derive(Clone, Copy)]
 pub struct Ran {
     pub number: u8,
     pub image: ThermalImage,

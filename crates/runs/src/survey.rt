@@ -8,7 +8,7 @@ use job::kinds::COMMANDS_START;
 use job::{Command, Dropped, Rec};
 use numbers::DONE;
 
-#[derive(Drop)]
+#[derive(Clone, Copy)]
 pub(crate) struct Survey {
     pub height: u32,
     pub dropped_count: usize,

@@ -1,6 +1,8 @@
 // The program `strip`: the listing of the job on standard input. Document 01, "The listing".
 // The lines are made by listing. No contract can say what a program reads or writes, so what is
 // done here is to read, to ask and to write.
+#![tactic(auto)]
+
 ghost use Rattle.std.specs.Prelude.{◌≤◌, length};
 ghost use Rattle.io.specs.Counts.{IsPrefixLen};
 
@@ -26,7 +28,7 @@ fn main() {
     os::fail(b"standard output");
 }
 
-#[derive(Drop)]
+#[derive(Clone, Copy)]
 struct Input {
     failed: bool,
     count: usize,
@@ -90,7 +92,7 @@ fn list_rows(plan: Plan, job: &[u8], line: &mut [u8], block: &mut [u8], from: us
     io::write_all(STDOUT_FILENO, &block[..at])
 }
 
-#[derive(Drop)]
+#[derive(Clone, Copy)]
 struct Put {
     failed: bool,
     at: usize,

@@ -1,5 +1,7 @@
 // The canvas, as in the Rust's thermal_image.rs: a record by value, and its dots in a buffer that
 // the caller lends. Every operation that may change it takes the record and hands the next one back.
+#![tactic(auto)]
+
 mod sizes;
 
 ghost use Rattle.std.specs.Prelude.{◌≡◌, length};
@@ -19,7 +21,7 @@ use sizes::turned_wide;
 
 // A canvas but for its dots, which are the first 4·width·height bytes of a buffer.
 #[repr(C)]
-#[derive(Drop)]
+#[derive(Clone, Copy)]
 pub struct ThermalImage {
     pub width: u32,
     pub height: u32,
@@ -29,7 +31,7 @@ pub struct ThermalImage {
 
 // What an operation answers: the number, and the canvas.
 #[repr(C)]
-#[derive(Drop)]
+#[derive(Clone, Copy)]
 pub struct Answer {
     pub number: u8,
     pub image: ThermalImage,
@@ -37,7 +39,7 @@ pub struct Answer {
 
 // What `copy` answers: the number, and the width and height of the dots written.
 #[repr(C)]
-#[derive(Drop)]
+#[derive(Clone, Copy)]
 pub struct Copied {
     pub number: u8,
     pub width: u32,
@@ -46,7 +48,7 @@ pub struct Copied {
 
 // What RGB output answers: the number, the canvas, and the width and height written.
 #[repr(C)]
-#[derive(Drop)]
+#[derive(Clone, Copy)]
 pub struct Rgb {
     pub number: u8,
     pub image: ThermalImage,

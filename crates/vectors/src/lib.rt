@@ -1,4 +1,6 @@
 // What the programs that replay the fixed lists share: compare/README.md, "The fixed lists".
+#![tactic(auto)]
+
 pub mod buffers;
 pub mod hex;
 pub mod lines;

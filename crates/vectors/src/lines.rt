@@ -19,7 +19,7 @@ pub fn line_end(s: &[u8], at: usize) -> usize
     i
 }
 
-#[derive(Drop)]
+#[derive(Clone, Copy)]
 pub struct Tally {
     pub agree: u64,
     pub lines: u64,

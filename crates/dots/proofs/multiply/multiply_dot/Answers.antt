@@ -1,0 +1,9 @@
+-- `dots::multiply::multiply_dot` meets its contract. Assumes nothing.
+use native.Mathlib.Omega.{arith}
+use Rattle.colour.proofs.Laws.{multiplied-some}
+use Rattle.dots.proofs.multiply.multiply_dot.Goals as goal
+
+pub returns : goal.returns
+returns c =
+    let z = c in
+    multiplied-some z.args.c z.args.s (λ e. omega (arith, z.requires)) c.multiply_byte.ensures c.multiply_byte-2.ensures c.multiply_byte-3.ensures
