@@ -16,7 +16,7 @@ use Rattle.moves.specs.declared.turned.Turn.{Turn}
 use Rattle.moves.specs.Moves.{lowered_on, padded_at, padded_on, copied_to, rgb_to, column_to, row_to, turned_wide, turned_tall, turned_on}
 use Rattle.moves.proofs.Bytes.{length_over, over-picked, over-kept}
 use Rattle.moves.proofs.Rects.{factor}
-use Rattle.moves.proofs.Turns.{sides, column-out, row_out, column-back, row_back, in-picture, dot-room, dot_at}
+use Rattle.moves.proofs.Turns.{sides, column-out, row_out, column-back, row_back, in-picture, dot-room, dot-turned}
 
 -- ---- lowered
 
@@ -122,7 +122,7 @@ module _ (by : Turn) (w h : ℕ) (src l : List ℕ) where
       change-picked _ _ l (r * turned_wide by w h + c)
       (within-yes 0 (w * h) _ (omega arith) (omega (arith, in-picture (turned_wide by w h) (turned_tall by w h) c r u v, sides by w h)))
       (dot-room (turned_wide by w h) (turned_tall by w h) u v (rw (sides by w h) room))
-      ∙ sym (dot_at by w h src r u _)
+      ∙ sym (dot-turned by w h src r u _)
       ∙ rw (column-back by w h x y a b, row_back by w h x y a b)
 
   pub turned-past : (i : ℕ) → w * h ≤ i → dot_at (turned_on by w h src l) i ≡ dot_at l i

@@ -58,10 +58,10 @@ dot-room w h {x} {y} a b room = omega (arith, in-picture w h x y a b)
 
 -- ---- the dot at column c, row r of the turned picture
 
-pub dot_at : (by : Turn) (w h : ℕ) (src : List ℕ) (r : ℕ) {c : ℕ} → c < turned_wide by w h
+pub dot-turned : (by : Turn) (w h : ℕ) (src : List ℕ) (r : ℕ) {c : ℕ} → c < turned_wide by w h
     → (d : RGBA) → turned_at by w h src c r ≡ turned_dot by w h src (r * turned_wide by w h + c) d
 unfolding turned_dot
-dot_at by w h src r {c} a d =
+dot-turned by w h src r {c} a d =
     let i = r * turned_wide by w h + c in
     let e = in_row r (turned_wide by w h) i (omega arith) (omega arith) in
     let m : i - r * turned_wide by w h ≡ c = omega arith in
@@ -81,8 +81,8 @@ along-reads w h c r s t a b ex ey room =
 pub quarter-dot : (w h : ℕ) (left : Bool) (src : List ℕ) (c r : ℕ) {x y : ℕ} → c < h → x ≡ along w r left → y ≡ along h c (not left)
     → (d : RGBA) → dot_at src (y * w + x) ≡ turned_dot (quarter left) w h src (r * h + c) d
 unfolding quarter along turned_wide column_from row_from
-quarter-dot w h false src c r a ex ey d = rw (ex, ey) (dot_at Quarter w h src r a d)
-quarter-dot w h true src c r a ex ey d = rw (ex, ey) (dot_at ThreeQuarters w h src r a d)
+quarter-dot w h false src c r a ex ey d = rw (ex, ey) (dot-turned Quarter w h src r a d)
+quarter-dot w h true src c r a ex ey d = rw (ex, ey) (dot-turned ThreeQuarters w h src r a d)
 
 -- ---- a half turn: n dots, the last first, of which i are written
 

@@ -42,6 +42,7 @@ module _ (pixels : List ℕ) (from : ℕ) where
 
   pub all-crisp-at : (n k : ℕ) → k < n → all_crisp pixels from n ≡ true → crisp (dot_at pixels (from + k)) ≡ true
   unfolding all_crisp
+  all-crisp-at zero k h e = elim h [ ]
   all-crisp-at (suc n) k h e =
       let t = and_both _ _ e in
       ⊎_elim (λ w. all-crisp-at n k w t.0) (λ w. let q : k ≡ n = omega arith in rw q t.1) (below k n)
@@ -59,20 +60,20 @@ module _ (pixels : List ℕ) (from : ℕ) where
       (and_both (all_crisp pixels from i) _ (sym (all-crisp-then i n) ∙ all.0)).1
 
   -- n more were looked at: one of them is translucent, or none is; and what the rest says
-  pub all-crisp-stop : (i n count : ℕ) {t : Bool} → i + n ≤ count → not t ≡ true → t ≡ all_crisp pixels (from + i) n → false ≡ all_crisp pixels from count
+  pub all-crisp-stop : (i n count : ℕ) {t : Bool} → i + n ≤ count → t ≡ false → t ≡ all_crisp pixels (from + i) n → false ≡ all_crisp pixels from count
   all-crisp-stop i n count {t} h e et = go t (all_crisp pixels from count) e et refl
     where
-      go : (t u : Bool) → not t ≡ true → t ≡ all_crisp pixels (from + i) n → all_crisp pixels from count ≡ u → false ≡ u
-      go true u e et f = absurd (true≢false (sym e))
+      go : (t u : Bool) → t ≡ false → t ≡ all_crisp pixels (from + i) n → all_crisp pixels from count ≡ u → false ≡ u
+      go true u e et f = absurd (true≢false e)
       go false true e et f = et ∙ all-crisp-part i n count h f
       go false false e et f = refl
 
-  pub all-crisp-on : (i n : ℕ) {t : Bool} → true ≡ all_crisp pixels from i → not t ≡ false → t ≡ all_crisp pixels (from + i) n → true ≡ all_crisp pixels from (i + n)
+  pub all-crisp-on : (i n : ℕ) {t : Bool} → true ≡ all_crisp pixels from i → t ≡ true → t ≡ all_crisp pixels (from + i) n → true ≡ all_crisp pixels from (i + n)
   all-crisp-on i n {t} e f et = go t f et
     where
-      go : (t : Bool) → not t ≡ false → t ≡ all_crisp pixels (from + i) n → true ≡ all_crisp pixels from (i + n)
+      go : (t : Bool) → t ≡ true → t ≡ all_crisp pixels (from + i) n → true ≡ all_crisp pixels from (i + n)
       go true f et = sym (all-crisp-then i n ∙ rw (← e, ← et))
-      go false f et = absurd (true≢false f)
+      go false f et = absurd (true≢false (sym f))
 
   pub all-crisp-end : (i count : ℕ) {t : Bool} → i ≤ count → true ≡ all_crisp pixels from i → t ≡ all_crisp pixels (from + i) (count - i) → t ≡ all_crisp pixels from count
   all-crisp-end i count h e et =

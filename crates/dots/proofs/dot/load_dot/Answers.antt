@@ -3,4 +3,4 @@ use mathlib.Core.Path.{◌∙◌}
 use Rattle.dots.proofs.dot.load_dot.Goals as goal
 
 pub returns : goal.returns
-returns c = c.by_word_lem.ensures ∙ c.get_dot.ensures
+returns c = c.by_word.ensures ∙ c.get_dot.ensures

@@ -5,6 +5,5 @@ use Rattle.dots.proofs.dot.store_dot.Goals as goal
 
 pub returns : goal.returns
 returns c =
-    let w = c in
-    let a = w.args in
-    c.set_dot.ensures ∙ ap (set_dot a.buf-1.now a.i) w.by_word_lem.ensures
+    let a = c.args in
+    c.set_dot.ensures ∙ ap (set_dot a.buf.now a.i) c.by_word.ensures

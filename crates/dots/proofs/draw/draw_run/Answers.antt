@@ -15,12 +15,9 @@ multiply_some-requires c =
 
 pub returns-then-covers : goal.returns-then-covers
 returns-then-covers c =
-    let f = c in
-    let a = f.args in
-    c.fill_run.ensures ∙ change-by _ _ _ a.buf.now (λ i z. covers-full a.multiply a.c _ (sym f.covers.ensures ∙ f.if-covers.true))
+    let a = c.args in
+    c.fill_run.ensures ∙ change-by _ _ _ a.buf.now (λ i z. covers-full a.multiply a.c _ (sym c.covers.ensures ∙ c.if-covers.true))
 
 pub mix_run-requires : goal.mix_run-requires
 mix_run-requires c =
-    let t = c in
-    let w = t in
-    record { count_in_bounds = (omega arith, no-tables _ _ (omega arith) (sym w.needs_tables.ensures ∙ w.if-needs_tables.false)); m_value = (t.mix_factors-m.ensures, t.mix_terms-k.ensures) }
+    record { count_in_bounds = (omega arith, no-tables _ _ (omega arith) (sym c.needs_tables.ensures ∙ c.if-needs_tables.false)); m_value = (c.mix_factors-m.ensures, c.mix_terms-k.ensures) }

@@ -21,9 +21,8 @@ loop-i-smaller c = omega arith
 
 pub loop-i-preserved : goal.loop-i-preserved
 loop-i-preserved c =
-    let h = c in
-    let a = h.args in
-    (omega arith, omega arith, omega arith, run-turn a.at h.loop-i.i _ a.buf-1.now (omega arith) (omega arith) h.loop-i.invariant.3 refl c.set_dot.ensures)
+    let a = c.args in
+    (omega arith, omega arith, omega arith, run-turn a.at c.loop-i.i _ a.buf.now (omega arith) (omega arith) c.loop-i.invariant.3 refl c.set_dot.ensures)
 
 pub shape_of-buf : goal.shape_of-buf
 shape_of-buf c = omega arith

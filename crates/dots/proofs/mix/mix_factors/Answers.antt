@@ -9,7 +9,7 @@ returns-then-multiply c = c.lanes.ensures ∙ ap lanes (factors-multiplied _ c.i
 
 pub returns-then-c-eq-OPAQUE : goal.returns-then-c-eq-OPAQUE
 returns-then-c-eq-OPAQUE c =
-    let g = c in c.lanes-then-c-eq-OPAQUE.ensures ∙ ap lanes (factors-full _ g.if-multiply.false c.if-c-eq-OPAQUE.true)
+    c.lanes-then-c-eq-OPAQUE.ensures ∙ ap lanes (factors-full _ c.if-multiply.false c.if-c-eq-OPAQUE.true)
 
 pub returns : goal.returns
-returns c = let g = c in c.lanes-2.ensures ∙ ap lanes (factors-some _ g.if-multiply.false g.if-c-eq-OPAQUE.false)
+returns c = c.lanes-2.ensures ∙ ap lanes (factors-some _ c.if-multiply.false c.if-c-eq-OPAQUE.false)

@@ -6,7 +6,7 @@ use Rattle.dots.proofs.Mixed.{Bytes, mix-start, mix-turn, mix-end, lane-at, lane
 use Rattle.dots.proofs.mix.mix_some.Goals as goal
 use Rattle.dots.proofs.mix.mix_some.Goals.{Start}
 
-colour-bytes : (c : Start invariant-loop decreases-loop) → Bytes c.args.c
+colour-bytes : (c : Start) → Bytes c.args.c
 colour-bytes c = record { r = omega arith; g = omega arith; b = omega arith; a = omega arith }
 
 pub loop-j-init : goal.loop-j-init
@@ -14,19 +14,15 @@ loop-j-init c = let a = c.args in (omega arith, mix-start a.m.now a.k.now (a.at 
 
 pub mix_byte-requires : goal.mix_byte-requires
 mix_byte-requires c =
-    let h = c in
-    let z = h in
-    rw (lane-at (factors z.args.multiply z.args.c) z.requires.1.0 h.loop-j.j (omega arith), lane-at (terms z.args.multiply z.args.c) z.requires.1.1 h.loop-j.j (omega arith)) (lanes_fit z.args.multiply z.args.c (colour-bytes z) (h.loop-j.j % 4) (omega arith))
+    rw (lane-at (factors c.args.multiply c.args.c) c.requires.m_value.0 c.loop-j.j (omega arith), lane-at (terms c.args.multiply c.args.c) c.requires.m_value.1 c.loop-j.j (omega arith)) (lanes_fit c.args.multiply c.args.c (colour-bytes (goal.at.mix_byte-requires c).Start) (c.loop-j.j % 4) (omega arith))
 
 pub loop-j-preserved : goal.loop-j-preserved
 loop-j-preserved c =
-    let h = c in
-    let a = h.args in
-    (omega arith, mix-turn a.m.now a.k.now (a.at * 4) h.loop-j.j a.buf.now h.loop-j.buf _ (omega arith) h.loop-j.invariant.1 c.mix_byte.ensures)
+    let a = c.args in
+    (omega arith, mix-turn a.m.now a.k.now (a.at * 4) c.loop-j.j a.buf.now c.loop-j.buf _ (omega arith) c.loop-j.invariant.1 c.mix_byte.ensures)
 
 pub returns : goal.returns
 returns c =
-    let z = c in
-    let a = z.args in
+    let a = c.args in
     let e : c.loop-j.j ≡ a.count * 4 = omega arith in
-    mix-end a.m.now a.k.now a.at a.count a.multiply a.c a.buf.now c.loop-j.buf (colour-bytes z) (λ i. omega (arith, c.slice_known-1.given i)) z.requires.0.2 z.requires.1.0 z.requires.1.1 (omega arith) (omega arith) (rw e at c.loop-j.invariant.1)
+    mix-end a.m.now a.k.now a.at a.count a.multiply a.c a.buf.now c.loop-j.buf (colour-bytes (goal.at.returns c).Start) (λ i. omega (arith, c.slice_known-1.given i)) c.requires.count_bound.2 c.requires.m_value.0 c.requires.m_value.1 (omega arith) (omega arith) (rw e at c.loop-j.invariant.1)

@@ -9,12 +9,10 @@ returns-then-multiply c = c.lanes.ensures ∙ ap lanes (terms-multiplied _ c.if-
 
 pub returns-then-c-eq-OPAQUE : goal.returns-then-c-eq-OPAQUE
 returns-then-c-eq-OPAQUE c =
-    let g = c in
-    c.lanes-then-c-eq-OPAQUE.ensures ∙ rw (g.term-r.ensures, g.term-g.ensures, g.term-b.ensures, c.term.ensures)
-    (ap lanes (terms-full _ g.if-multiply.false c.if-c-eq-OPAQUE.true))
+    c.lanes-then-c-eq-OPAQUE.ensures ∙ rw (c.term-r.ensures, c.term-g.ensures, c.term-b.ensures, c.term.ensures)
+    (ap lanes (terms-full _ c.if-multiply.false c.if-c-eq-OPAQUE.true))
 
 pub returns : goal.returns
 returns c =
-    let g = c in
-    c.lanes-2.ensures ∙ rw (g.term-r.ensures, g.term-g.ensures, g.term-b.ensures)
-    (ap lanes (terms-some _ g.if-multiply.false c.if-c-eq-OPAQUE.false))
+    c.lanes-2.ensures ∙ rw (c.term-r.ensures, c.term-g.ensures, c.term-b.ensures)
+    (ap lanes (terms-some _ c.if-multiply.false c.if-c-eq-OPAQUE.false))

@@ -16,6 +16,5 @@ table_at c a e s h = rw e (get_or-tab 256 _ s 0 h)
 
 pub returns : goal.returns
 returns c =
-    let z = c in
-    let a = z.args in
-    multiplied-some a.c a.s (λ e. omega arith) (table_at a.c.r a.c.a z.requires.1.0 a.s.r (omega arith)) (table_at a.c.g a.c.a z.requires.1.1 a.s.g (omega arith)) (table_at a.c.b a.c.a z.requires.1.2 a.s.b (omega arith))
+    let a = c.args in
+    multiplied-some a.c a.s (λ e. omega arith) (table_at a.c.r a.c.a c.requires.tr_value.0 a.s.r (omega arith)) (table_at a.c.g a.c.a c.requires.tr_value.1 a.s.g (omega arith)) (table_at a.c.b a.c.a c.requires.tr_value.2 a.s.b (omega arith))

@@ -5,5 +5,4 @@ use Rattle.dots.proofs.multiply.multiply_dot.Goals as goal
 
 pub returns : goal.returns
 returns c =
-    let z = c in
-    multiplied-some z.args.c z.args.s (λ e. omega (arith, z.requires)) c.multiply_byte.ensures c.multiply_byte-2.ensures c.multiply_byte-3.ensures
+    multiplied-some c.args.c c.args.s (λ e. omega (arith, c.requires)) c.multiply_byte.ensures c.multiply_byte-2.ensures c.multiply_byte-3.ensures

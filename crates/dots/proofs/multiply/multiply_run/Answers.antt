@@ -31,8 +31,8 @@ loop-i-preserved c =
     let h = d in
     let a = h.args in
     let g : ℕ → RGBA → RGBA = λ _ s. multiplied a.c s in
-    let old = run-old a.at h.loop-i.i g a.buf-1.now h.loop-i.invariant.3 d.get_dot-s.ensures in
-    (omega arith, omega arith, omega arith, run-turn a.at h.loop-i.i g a.buf-1.now (omega arith) (omega arith) h.loop-i.invariant.3 (d.look_up-d.ensures ∙ ap (multiplied a.c) old) s.set_dot.ensures)
+    let old = run-old a.at h.loop-i.i g a.buf.now h.loop-i.invariant.3 d.get_dot-s.ensures in
+    (omega arith, omega arith, omega arith, run-turn a.at h.loop-i.i g a.buf.now (omega arith) (omega arith) h.loop-i.invariant.3 (d.look_up-d.ensures ∙ ap (multiplied a.c) old) s.set_dot.ensures)
 
 pub shape_of-buf : goal.shape_of-buf
 shape_of-buf c = omega arith

@@ -1,0 +1,7 @@
+-- `moves::copy_dots` meets its contract. Assumes nothing.
+use mathlib.Core.Path.{◌∙◌}
+use Rattle.moves.proofs.Runs.{copied-first}
+use Rattle.moves.proofs.copy.copy_dots.Goals as goal
+
+pub returns : goal.returns
+returns c = c.copy_run.ensures ∙ copied-first _ _ _

@@ -1,0 +1,8 @@
+-- `vectors::buffers::list_space` meets its contract. Assumes nothing.
+use mathlib.Core.Path.{refl}
+use Rattle.vectors.specs.Buffers.{all}
+use Rattle.vectors.proofs.buffers.list_space.Goals as goal
+
+pub returns : goal.returns
+unfolding all
+returns c = refl
