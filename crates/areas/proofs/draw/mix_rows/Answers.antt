@@ -1,0 +1,39 @@
+use native.Mathlib.Omega.{arith}
+use mathlib.Core.Path.{refl}
+use Prim.Native.Nat.{◌-◌}
+use Rattle.areas.proofs.Rows.{rows_start, rows-room, rows_next, rows_end}
+use Rattle.areas.proofs.draw.mix_rows.Goals as goal
+
+pub loop-j-init : goal.loop-j-init
+loop-j-init c = rows_start _ _ _ _ _ _ _
+
+pub overflow_add-y : goal.overflow_add-y
+overflow_add-y c = omega (arith, rows-room _ _ _ _ _ _ _ c.requires.fits.0 c.loop-j.invariant c.loop-j-test.true)
+
+pub overflow_mul-y : goal.overflow_mul-y
+overflow_mul-y c = omega (arith, rows-room _ _ _ _ _ _ _ c.requires.fits.0 c.loop-j.invariant c.loop-j-test.true)
+
+pub overflow_add-y-in-loop-j : goal.overflow_add-y-in-loop-j
+overflow_add-y-in-loop-j c =
+    omega (arith, rows-room _ _ _ _ _ _ _ c.requires.fits.0 c.loop-j.invariant c.loop-j-test.true)
+
+pub mix_run-requires : goal.mix_run-requires
+mix_run-requires c =
+    let p = c.requires in
+    record { count_in_bounds = (omega (arith, rows-room _ _ _ _ _ _ _ p.fits.0 c.loop-j.invariant c.loop-j-test.true), p.fits.1); m_value = p.m_value }
+
+pub overflow_add-j : goal.overflow_add-j
+overflow_add-j c = omega arith
+
+pub loop-j-smaller : goal.loop-j-smaller
+loop-j-smaller c = omega arith
+
+pub loop-j-preserved : goal.loop-j-preserved
+loop-j-preserved c =
+    rows_next _ _ _ _ _ _ _ c.requires.fits.0 _ c.loop-j.invariant c.loop-j-test.true (λ k u v d. refl) c.mix_run.ensures
+
+pub shape_of-buf : goal.shape_of-buf
+shape_of-buf c = omega arith
+
+pub returns : goal.returns
+returns c = rows_end _ _ _ _ _ _ _ c.loop-j.invariant c.loop-j-test.false
