@@ -67,8 +67,8 @@ module _ (s : List ℕ) (W H : ℕ) (paper : RGBA) (l : List ℕ) (some : 1 ≤ 
   unfolding dropping.put_reason result_refusal
   put-number x y w h = rect-grown t refl x y w h (length l) sound ∙ sym (first_then _ _ _ ∙ ap (first (side_refusal w h)) (first_then _ _ _))
 
-  put_on : (x y w h : ℕ) → rect_refusal t x y w h (length l) ≡ done → x < W
-  put_on x y w h e = (put-kept W H x y w h (first_done _ _ (sym (put-number x y w h) ∙ e)).0).on
+  put-across : (x y w h : ℕ) → rect_refusal t x y w h (length l) ≡ done → x < W
+  put-across x y w h e = (put-kept W H x y w h (first_done _ _ (sym (put-number x y w h) ∙ e)).0).on
 
   put-answer : (x y w h : ℕ) → finished (sized t W (tall_after t x y w h)) ≡ finished (canvas W (max H (y + h)) true paper)
   put-answer x y w h = rw (tall-grown t refl x y w h) refl
@@ -93,7 +93,7 @@ module _ (s : List ℕ) (W H : ℕ) (paper : RGBA) (l : List ℕ) (some : 1 ≤ 
         number = put-number x y w h;
         answer = λ e. rect-record t x y w h (length l) e ∙ put-answer x y w h;
         bytes = λ e.
-            rect-placed (multiplies mode) t x y w h l c e ∙ placed-grown t refl x y w h _ l (put_on x y w h e) ∙ sym (entry-area (rectangle_entry W x y w h c mode));
+            rect-placed (multiplies mode) t x y w h l c e ∙ placed-grown t refl x y w h _ l (put-across x y w h e) ∙ sym (entry-area (rectangle_entry W x y w h c mode));
       }
 
   -- ---- a margin
