@@ -25,10 +25,6 @@ use Rattle.rows.proofs.Lines.{row_more}
 use Rattle.rows.proofs.Answers.{row-refused, row_kept, row-drawn, row-answered}
 use Rattle.lists.specs.Steps.{unless_refused}
 
--- how many bytes an entry takes in a list, by which the walks step
-abbrev pub entry_size : ℕ
-entry_size = 40
-
 pub refused : {A : Type 0} {number : ℕ} (m l : A) → (number ≡ done → ⊥) → l ≡ unless_refused number m l
 refused {A} {number} m l n = rw (ne_eqb number done n)
 

@@ -1,4 +1,2 @@
 mod Laws
-mod Again
-mod Locals
 mod Unique
