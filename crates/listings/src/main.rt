@@ -3,53 +3,60 @@
 
 ghost use Rattle.std.specs.Prelude.{◌≤◌, length};
 
-use libc::STDOUT_FILENO;
+use input::read_full;
 use listing::MOST_BYTES;
 use plan::Plan;
+use std::fs::File;
+use std::io;
 
 const SPACE: usize = MOST_BYTES + 1;
 
-fn main() {
-    show(b"empty.job");
-    show(b"cut.job");
-    show(b"many.job");
-    show(b"flip.job");
-    show(b"flat.job");
-    show(b"drawn.job");
+fn main(rt: HostRuntime) -> io::Result<()> {
+    show(&rt, "empty.job")?;
+    show(&rt, "cut.job")?;
+    show(&rt, "many.job")?;
+    show(&rt, "flip.job")?;
+    show(&rt, "flat.job")?;
+    show(&rt, "drawn.job")
 }
 
-fn show(path: &[u8]) {
+fn show(rt: &HostRuntime, path: &str) -> io::Result<()> {
     let mut space = [0u8; SPACE];
-    let file = os::open_read(path);
-    let n = io::read_full(file, &mut space);
-    libc::close(file);
-    io::write_all(STDOUT_FILENO, path);
-    io::write_all(STDOUT_FILENO, b"\n");
-    list(&space[..n]);
+    let mut file = File::open(rt, path)?;
+    let n = read_full(&mut file, &mut space)?;
+    println!(rt; "{path}")?;
+    list(rt, &space[..n])
 }
 
-fn list(job: &[u8]) {
+fn list(rt: &HostRuntime, job: &[u8]) -> io::Result<()> {
     let mut line = [0u8; 65536];
-    let mut text = io::buffer();
+    let mut text = [0u8; 4096];
     let t = listing::list_job(job);
     let first = listing::first_line(t, &mut text);
-    tell(&text, first.size);
+    tell(rt, &text, first.size)?;
     let plan = t.plan;
-    list_rows(plan, job, &mut line, &mut text);
+    list_rows(rt, plan, job, &mut line, &mut text)
 }
 
-fn list_rows(plan: Plan, job: &[u8], line: &mut [u8], text: &mut [u8]) {
+fn list_rows(
+    rt: &HostRuntime,
+    plan: Plan,
+    job: &[u8],
+    line: &mut [u8],
+    text: &mut [u8],
+) -> io::Result<()> {
     let mut row = 0;
     while row < plan.height {
         let answer = rows::row(plan, row, job, line);
         let next = listing::row_line(row, answer.ink, text);
-        tell(text, next.size);
+        tell(rt, text, next.size)?;
         row += 1;
     }
+    Ok(())
 }
 
-fn tell(text: &[u8], n: usize)
+fn tell(rt: &HostRuntime, text: &[u8], n: usize) -> io::Result<()>
     requires { n ≤ length text.now }
 {
-    io::write_all(STDOUT_FILENO, &text[..n]);
+    rt.write_all(&text[..n])
 }

@@ -17,7 +17,7 @@ pub fn put(line: &[u8], buf: &mut [u8]) -> Answer
             image: image_at(line),
         };
     }
-    let mut pixels = io::buffer();
+    let mut pixels = [0; 4096];
     fill_from(&mut pixels, count, number_at(line, 69, 8));
     put_all(line, &pixels[..count], buf)
 }

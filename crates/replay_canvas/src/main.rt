@@ -10,7 +10,10 @@ mod record;
 ghost use Rattle.std.specs.Prelude.{◌≤◌, length};
 
 use calls::answer;
+use input::read_full;
 use record::says;
+use std::fs::File;
+use std::io;
 use vectors::buffers::{fresh_buffer, list_space};
 use vectors::hex::number_at;
 use vectors::lines::{Tally, line_end};
@@ -18,23 +21,29 @@ use vectors::sums::checksum;
 
 const LINE: usize = 167;
 
-fn main() {
-    replay(b"canvas", b"canvas.txt");
-    replay(b"canvas's refusals", b"canvas_refusals.txt");
-    replay(b"drawing", b"drawing.txt");
-    replay(b"drawing's refusals", b"drawing_refusals.txt");
+fn main(rt: HostRuntime) -> io::Result<()> {
+    replay(&rt, b"canvas", "canvas.txt")?;
+    replay(&rt, b"canvas's refusals", "canvas_refusals.txt")?;
+    replay(&rt, b"drawing", "drawing.txt")?;
+    replay(&rt, b"drawing's refusals", "drawing_refusals.txt")
 }
 
-fn replay(name: &[u8], path: &[u8]) {
-    let list = os::open_read(path);
+fn replay(rt: &HostRuntime, name: &[u8], path: &str) -> io::Result<()> {
+    let mut list = File::open(rt, path)?;
     let mut space = list_space();
-    let n = io::read_full(list, &mut space);
+    let n = read_full(&mut list, &mut space)?;
     let mut one = fresh_buffer();
     let mut two = fresh_buffer();
-    tally(name, &space[..n], &mut one, &mut two);
+    tally(rt, name, &space[..n], &mut one, &mut two)
 }
 
-fn tally(name: &[u8], s: &[u8], one: &mut [u8], two: &mut [u8]) {
+fn tally(
+    rt: &HostRuntime,
+    name: &[u8],
+    s: &[u8],
+    one: &mut [u8],
+    two: &mut [u8],
+) -> io::Result<()> {
     let mut t = Tally::NONE;
     let mut at = 0;
     while at < s.len() {
@@ -42,7 +51,7 @@ fn tally(name: &[u8], s: &[u8], one: &mut [u8], two: &mut [u8]) {
         t = t.with(agrees(&s[at..end], one, two));
         at = end;
     }
-    t.tell(name);
+    t.tell(rt, name)
 }
 
 // A line ends in the checksums of both buffers.

@@ -3,20 +3,23 @@
 // colour, an alpha or a colour number, and the original's answer.
 #![tactic(auto)]
 
+use input::read_full;
+use std::fs::File;
+use std::io;
 use vectors::COLORS;
 use vectors::hex::{byte_at, color_at, same_color};
 use vectors::lines::{Tally, line_end};
 
 const LINE: usize = 32;
 
-fn main() {
-    let list = os::open_read(b"colour.txt");
-    let mut space = io::large_buffer();
-    let n = io::read_full(list, &mut space);
-    tally(&space[..n]);
+fn main(rt: HostRuntime) -> io::Result<()> {
+    let mut list = File::open(&rt, "colour.txt")?;
+    let mut space = [0; 65536];
+    let n = read_full(&mut list, &mut space)?;
+    tally(&rt, &space[..n])
 }
 
-fn tally(s: &[u8]) {
+fn tally(rt: &HostRuntime, s: &[u8]) -> io::Result<()> {
     let mut t = Tally::NONE;
     let mut at = 0;
     while at < s.len() {
@@ -24,7 +27,7 @@ fn tally(s: &[u8]) {
         t = t.with(agrees(&s[at..end]));
         at = end;
     }
-    t.tell(b"colour");
+    t.tell(rt, b"colour")
 }
 
 fn agrees(line: &[u8]) -> bool {

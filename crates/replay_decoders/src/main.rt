@@ -5,6 +5,9 @@
 ghost use Rattle.std.specs.Prelude.{◌≤◌, length};
 
 use graphics::Decoded;
+use input::read_full;
+use std::fs::File;
+use std::io;
 use vectors::COLORS;
 use vectors::buffers::{fresh_buffer, list_space};
 use vectors::hex::{byte_at, color_at, number_at, unpack};
@@ -13,19 +16,19 @@ use vectors::sums::checksum;
 
 const HEAD: usize = 79;
 
-fn main() {
-    replay(b"decoders", b"decoders.txt");
-    replay(b"decoders' refusals", b"decoders_refusals.txt");
+fn main(rt: HostRuntime) -> io::Result<()> {
+    replay(&rt, b"decoders", "decoders.txt")?;
+    replay(&rt, b"decoders' refusals", "decoders_refusals.txt")
 }
 
-fn replay(name: &[u8], path: &[u8]) {
-    let list = os::open_read(path);
+fn replay(rt: &HostRuntime, name: &[u8], path: &str) -> io::Result<()> {
+    let mut list = File::open(rt, path)?;
     let mut space = list_space();
-    let n = io::read_full(list, &mut space);
-    tally(name, &space[..n]);
+    let n = read_full(&mut list, &mut space)?;
+    tally(rt, name, &space[..n])
 }
 
-fn tally(name: &[u8], s: &[u8]) {
+fn tally(rt: &HostRuntime, name: &[u8], s: &[u8]) -> io::Result<()> {
     let mut t = Tally::NONE;
     let mut at = 0;
     while at < s.len() {
@@ -33,7 +36,7 @@ fn tally(name: &[u8], s: &[u8]) {
         t = t.with(agrees(&s[at..end]));
         at = end;
     }
-    t.tell(name);
+    t.tell(rt, name)
 }
 
 fn agrees(line: &[u8]) -> bool {
@@ -51,7 +54,7 @@ fn agrees(line: &[u8]) -> bool {
     if room > 4096 {
         return false;
     }
-    let mut data = io::buffer();
+    let mut data = [0; 4096];
     let mut out = fresh_buffer();
     unpack(line, HEAD, size, &mut data);
     decoded(line, &data[..size], &mut out[..room])

@@ -7,9 +7,12 @@ mod planned;
 
 ghost use Rattle.std.specs.Prelude.{◌≤◌, length};
 
+use input::read_full;
 use job::Dropped;
 use planned::plan_agrees;
 use runs::Ran;
+use std::fs::File;
+use std::io;
 use vectors::buffers::{fresh_buffer, list_space};
 use vectors::hex::{byte_at, is_record, number_at, unpack};
 use vectors::lines::{Tally, line_end};
@@ -17,19 +20,19 @@ use vectors::sums::{NO_BYTES, checksum, sum_with};
 
 const HEAD: usize = 76;
 
-fn main() {
-    replay(b"jobs", b"jobs.txt");
-    replay(b"jobs' refusals", b"jobs_refusals.txt");
+fn main(rt: HostRuntime) -> io::Result<()> {
+    replay(&rt, b"jobs", "jobs.txt")?;
+    replay(&rt, b"jobs' refusals", "jobs_refusals.txt")
 }
 
-fn replay(name: &[u8], path: &[u8]) {
-    let list = os::open_read(path);
+fn replay(rt: &HostRuntime, name: &[u8], path: &str) -> io::Result<()> {
+    let mut list = File::open(rt, path)?;
     let mut space = list_space();
-    let n = io::read_full(list, &mut space);
-    tally(name, &space[..n]);
+    let n = read_full(&mut list, &mut space)?;
+    tally(rt, name, &space[..n])
 }
 
-fn tally(name: &[u8], s: &[u8]) {
+fn tally(rt: &HostRuntime, name: &[u8], s: &[u8]) -> io::Result<()> {
     let mut t = Tally::NONE;
     let mut at = 0;
     while at < s.len() {
@@ -37,7 +40,7 @@ fn tally(name: &[u8], s: &[u8]) {
         t = t.with(agrees(&s[at..end]));
         at = end;
     }
-    t.tell(name);
+    t.tell(rt, name)
 }
 
 fn agrees(line: &[u8]) -> bool {
@@ -55,7 +58,7 @@ fn agrees(line: &[u8]) -> bool {
     if room > 4096 {
         return false;
     }
-    let mut job = io::buffer();
+    let mut job = [0; 4096];
     let mut buf = fresh_buffer();
     unpack(line, HEAD, size, &mut job);
     run_agrees(line, &job[..size], &mut buf[..room])

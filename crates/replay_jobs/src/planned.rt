@@ -15,7 +15,7 @@ pub fn plan_agrees(line: &[u8], job: &[u8], canvas: &[u8]) -> bool
     if t.number != 0 {
         return true;
     }
-    let mut space = io::large_buffer();
+    let mut space = [0; 65536];
     let ink = number_at(line, 63, 8);
     let plan = t.plan;
     rows_agree(plan, job, canvas, &mut space, ink)

@@ -1,6 +1,6 @@
 -- Each public function's contract leaves one answer, or one content of the lent buffer. Assumes nothing.
-use mathlib.Core.Path.{refl}
-use Rattle.numbers.proofs.OneAnswer.{OneAnswer, OneContent, both}
+use Rattle.std.specs.Prelude.{◌≡◌, Ok}
+use Rattle.numbers.proofs.OneAnswer.{OneAnswer, OneAnswerWhere, OneContent, both}
 use Rattle.vectors.proofs.buffers.fresh_buffer.Reads as fresh-buffer
 use Rattle.vectors.proofs.buffers.list_space.Reads as list-space
 use Rattle.vectors.proofs.hex.byte_at.Reads as byte_at
@@ -46,9 +46,9 @@ line-end-one k a x y e f p q = both p.0 q.0
 with-one : OneAnswer with-line.Post
 with-one k a x y e f p q = both p q
 
--- a unit has one value; what is written is nowhere said
-tell-one : OneAnswer tell.Post
-tell-one k a x y e f p q = refl
+-- a unit has one value; what is written, and when a write fails, is nowhere said
+tell-one : OneAnswerWhere (λ k r. r ≡ Ok tt) tell.Post
+tell-one k a x y e f p q u v = both u v
 
 fill-from-content : OneContent fill-from.Post (λ k e. e.0.now)
 fill-from-content k a x y e f p q = both p q

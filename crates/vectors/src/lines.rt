@@ -2,7 +2,7 @@
 ghost use Rattle.std.specs.Prelude.{◌≡◌, ◌+◌, ◌<◌, ◌≤◌, ◌^◌, length};
 ghost use Rattle.vectors.specs.Lines.{line_end, counted};
 
-use libc::STDOUT_FILENO;
+use std::io;
 
 // The place past the line that begins at `at`, newline included.
 pub fn line_end(s: &[u8], at: usize) -> usize
@@ -39,15 +39,11 @@ impl Tally {
         }
     }
 
-    pub fn tell(self, list: &[u8])
+    pub fn tell(self, rt: &HostRuntime, list: &[u8]) -> io::Result<()>
         requires { self.agree ≤ self.lines }
         ensures { Unit {0} }
     {
-        io::write_all(STDOUT_FILENO, list);
-        io::write_all(STDOUT_FILENO, b" agree ");
-        io::print_decimal(STDOUT_FILENO, self.agree);
-        io::write_all(STDOUT_FILENO, b" differ ");
-        io::print_decimal(STDOUT_FILENO, self.lines - self.agree);
-        io::write_all(STDOUT_FILENO, b"\n");
+        rt.write_all(list)?;
+        println!(rt; " agree {} differ {}", self.agree, self.lines - self.agree)
     }
 }
