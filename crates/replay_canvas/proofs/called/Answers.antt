@@ -1,0 +1,10 @@
+-- `replay_canvas::called` meets its contract. Assumes nothing.
+use native.Mathlib.Omega.{arith}
+use lib.ListN.{length-take}
+use Rattle.replay_canvas.proofs.called.Goals as goal
+
+pub slice_bounds-answer-end-2 : goal.slice_bounds-answer-end-2
+slice_bounds-answer-end-2 c = simp length-take (omega arith)
+
+pub slice_bounds-answer-end-4 : goal.slice_bounds-answer-end-4
+slice_bounds-answer-end-4 c = simp length-take (omega arith)

@@ -1,0 +1,12 @@
+-- `replay_canvas::tally` meets its contract. Assumes nothing.
+use mathlib.Core.Path.{◌≡◌}
+use Prim.Native.Nat.{◌-◌, ◌≤◌}
+use lib.ListN.{length}
+use Rattle.vectors.proofs.Tallies.{Tallied}
+use Rattle.replay_canvas.proofs.tally.Given as goal
+
+abbrev pub invariant-loop-at : goal.invariant-loop-at
+invariant-loop-at l = (l.at ≤ length l.s) × Tallied l.t l.at × (length l.one ≡ length l.initial.one) × (length l.two ≡ length l.initial.two)
+
+abbrev pub decreases-loop-at : goal.decreases-loop-at
+decreases-loop-at l = length l.s - l.at
