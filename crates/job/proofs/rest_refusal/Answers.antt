@@ -1,5 +1,4 @@
 use mathlib.Core.Path.{sym, ◌∙◌}
-use Prim.Native.Nat.{◌-◌}
 use native.Mathlib.Omega.{arith}
 use Rattle.job.proofs.Found.{found}
 use Rattle.job.proofs.Walk.{checked-start, checked-next, checked-unsound, checked-bad, checked-long, checked-done}

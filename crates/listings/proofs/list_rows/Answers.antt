@@ -1,4 +1,3 @@
-use Prim.Native.Nat.{◌-◌}
 use native.Mathlib.Omega.{arith}
 use Rattle.listing.specs.Listing.{row_line}
 use Rattle.listing.proofs.Lines.{text-inside}

@@ -1,5 +1,4 @@
-use Rattle.std.proofs.Common.{◌≡◌, ◌∙◌, length, arith}
-use Rattle.plan.specs.Plan.{no_entry}
+use Rattle.std.proofs.Common.{◌∙◌, arith}
 use Rattle.lists.proofs.Laws.{good_none, good_turn, good-all}
 use Rattle.lists.proofs.good_list.Goals as goal
 

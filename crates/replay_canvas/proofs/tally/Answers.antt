@@ -1,4 +1,3 @@
-use Prim.Native.Nat.{◌-◌}
 use native.Mathlib.Omega.{arith}
 use Rattle.vectors.proofs.Tallies.{tally-next}
 use Rattle.replay_canvas.proofs.tally.Goals as goal

@@ -1,5 +1,5 @@
 use mathlib.Core.Path.{◌≡◌}
-use Prim.Native.Nat.{◌-◌, ◌≤◌}
+use Prim.Native.Nat.{◌≤◌}
 use native.Mathlib.Omega.{arith}
 use Rattle.rows.proofs.Lines.{ink-none, ink-more, ink-few, ink-one}
 use Rattle.rows.proofs.ink_of.Goals as goal

@@ -1,5 +1,4 @@
 use native.Mathlib.Omega.{arith}
-use Prim.Native.Nat.{◌-◌}
 use Rattle.areas.proofs.Laws.{area-height}
 use Rattle.areas.proofs.Flips.{flip-start, flip-room, flip-next, flip-end}
 use Rattle.areas.proofs.flip.flip_area.Goals as goal

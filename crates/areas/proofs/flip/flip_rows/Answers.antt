@@ -1,5 +1,4 @@
 use borrow.Author.Rules.{rules}
-use Prim.Native.Nat.{◌-◌}
 use native.Mathlib.Omega.{arith}
 use Rattle.areas.proofs.Flips.{pair-start, pair-apart, pair-next, pair_end}
 use Rattle.areas.proofs.flip.flip_rows.Goals as goal

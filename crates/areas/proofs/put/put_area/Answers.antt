@@ -1,6 +1,5 @@
 use native.Mathlib.Omega.{arith}
 use mathlib.Core.Path.{refl}
-use Prim.Native.Nat.{◌-◌}
 use Rattle.areas.proofs.Rows.{rows_start, rows-room, rows_next, rows_end}
 use Rattle.areas.proofs.Pixels.{pixel-fits}
 use Rattle.areas.proofs.put.put_area.Goals as goal

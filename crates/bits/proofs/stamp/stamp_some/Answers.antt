@@ -1,5 +1,5 @@
 use mathlib.Core.Path.{◌≡◌}
-use Prim.Native.Nat.{◌-◌, ◌*◌}
+use Prim.Native.Nat.{◌*◌}
 use native.Mathlib.Omega.{arith}
 use Rattle.dots.proofs.Mixed.{Bytes}
 use Rattle.bits.proofs.Stamping.{stamp-start, stamp-turn, stamp-fits, stamp-end}

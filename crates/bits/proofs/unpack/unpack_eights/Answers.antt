@@ -1,5 +1,4 @@
 use mathlib.Core.Path.{refl}
-use Prim.Native.Nat.{◌-◌}
 use native.Mathlib.Omega.{arith}
 use Rattle.dots.specs.Dots.{tab}
 use Rattle.bits.proofs.Rows.{byte-shown, bits-start, bits-next, bits-end}

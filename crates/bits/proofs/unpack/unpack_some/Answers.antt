@@ -1,5 +1,4 @@
 use mathlib.Core.Path.{◌≡◌, refl}
-use Prim.Native.Nat.{◌-◌}
 use native.Mathlib.Omega.{arith}
 use Rattle.bits.proofs.Unpacking.{byte-start, byte_next}
 use Rattle.bits.proofs.unpack.unpack_some.Goals as goal

@@ -1,4 +1,3 @@
-use Prim.Native.Nat.{◌-◌}
 use native.Mathlib.Nat.{mod-lt}
 use native.Mathlib.Omega.{arith}
 use Rattle.bits.proofs.Stretching.{stretch-start, stretch-shown, stretch-next, stretch-end}

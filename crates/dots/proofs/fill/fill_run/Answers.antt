@@ -1,6 +1,6 @@
 use native.Mathlib.Omega.{arith}
 use mathlib.Core.Path.{◌≡◌, refl}
-use Prim.Native.Nat.{◌+◌, ◌-◌}
+use Prim.Native.Nat.{◌+◌}
 use Rattle.dots.proofs.Laws.{run_none, run-turn}
 use Rattle.dots.proofs.fill.fill_run.Goals as goal
 

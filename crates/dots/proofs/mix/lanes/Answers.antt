@@ -1,5 +1,4 @@
 use native.Mathlib.Omega.{arith}
-use Prim.Native.Nat.{◌-◌}
 use lib.ListN.{length-set}
 use Rattle.colour.specs.Colour.{rgba}
 use Rattle.dots.specs.Tables.{lanes}

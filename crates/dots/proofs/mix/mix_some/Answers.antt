@@ -1,6 +1,6 @@
 use native.Mathlib.Omega.{arith}
 use mathlib.Core.Path.{◌≡◌}
-use Prim.Native.Nat.{◌*◌, ◌-◌, ◌%◌}
+use Prim.Native.Nat.{◌*◌, ◌%◌}
 use Rattle.dots.specs.Tables.{factors, terms}
 use Rattle.dots.proofs.Mixed.{Bytes, mix-start, mix-turn, mix-end, lane-at, lanes_fit}
 use Rattle.dots.proofs.mix.mix_some.Goals as goal

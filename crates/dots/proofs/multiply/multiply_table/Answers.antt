@@ -1,6 +1,5 @@
 use native.Mathlib.Omega.{arith}
 use mathlib.Core.Path.{◌∙◌}
-use Prim.Native.Nat.{◌-◌}
 use lib.ListN.{length-set}
 use Rattle.colour.specs.Channel.{multiply_byte}
 use Rattle.dots.specs.Tables.{multiply_table}

@@ -49,5 +49,8 @@ returns-then-flips c =
 pub returns : goal.returns
 unfolding image_on image_placed
 returns c =
-    record { value = put-answer (goal.at.returns c).After-put_on-answer; buf_after = changed (numbered (goal.at.returns c).After-place_refusal-number) _ _ c.if-number-ne-DONE.false
-          (c.put_on-answer.ensures.buf_after ∙ rw (c.image_tall-rows.ensures, ← c.flips.ensures, c.if-flips.false)) }
+    record {
+      value = put-answer (goal.at.returns c).After-put_on-answer;
+      buf_after = changed (numbered (goal.at.returns c).After-place_refusal-number) _ _ c.if-number-ne-DONE.false
+          (c.put_on-answer.ensures.buf_after ∙ rw (c.image_tall-rows.ensures, ← c.flips.ensures, c.if-flips.false));
+    }

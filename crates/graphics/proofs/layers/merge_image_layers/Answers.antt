@@ -1,4 +1,3 @@
-use Prim.Native.Nat.{◌-◌}
 use native.Mathlib.Omega.{arith}
 use Rattle.graphics.proofs.Layering.{fewer, merging_start, merging-next, merging-end}
 use Rattle.graphics.proofs.layers.merge_image_layers.Goals as goal

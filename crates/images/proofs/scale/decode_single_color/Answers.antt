@@ -1,4 +1,3 @@
-use Prim.Native.Nat.{◌-◌}
 use native.Mathlib.Omega.{arith}
 use Rattle.images.proofs.Scaling.{down-start, down-room, down-next, down-end, down-above}
 use Rattle.images.proofs.scale.decode_single_color.Goals as goal

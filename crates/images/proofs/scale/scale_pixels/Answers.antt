@@ -1,4 +1,3 @@
-use Prim.Native.Nat.{◌-◌}
 use native.Mathlib.Omega.{arith}
 use Rattle.images.proofs.Scaling.{source-dot, across-start, across-room, across-next, across-end}
 use Rattle.images.proofs.scale.scale_pixels.Goals as goal

@@ -1,5 +1,5 @@
 use mathlib.Core.Path.{ap}
-use Prim.Native.Nat.{ℕ, ◌+◌, ◌-◌}
+use Prim.Native.Nat.{ℕ, ◌+◌}
 use native.Mathlib.Omega.{arith}
 use Rattle.listing.proofs.Lines.{copied-start, copied_next, copied-room, copied-end}
 use Rattle.listing.proofs.writing.put_word.Goals as goal

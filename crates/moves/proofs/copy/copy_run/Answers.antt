@@ -1,4 +1,3 @@
-use Prim.Native.Nat.{◌-◌}
 use Rattle.moves.proofs.Runs.{copied-start, copied_next, copied-end}
 use Rattle.moves.proofs.copy.copy_run.Goals as goal
 

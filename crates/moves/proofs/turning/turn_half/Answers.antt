@@ -1,4 +1,3 @@
-use Prim.Native.Nat.{◌-◌}
 use Rattle.moves.proofs.Turns.{back_start, back-next, back_end}
 use Rattle.moves.proofs.turning.turn_half.Goals as goal
 

@@ -1,4 +1,3 @@
-use Prim.Native.Nat.{◌-◌}
 use native.Mathlib.Omega.{arith}
 use Rattle.moves.specs.Moves.{turned_on}
 use Rattle.moves.proofs.Strips.{strips-start, strips-next, strips-end}

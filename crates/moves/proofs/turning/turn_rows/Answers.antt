@@ -1,4 +1,3 @@
-use Prim.Native.Nat.{◌-◌}
 use Rattle.moves.proofs.Strips.{down-start, down-next, down-end}
 use Rattle.moves.proofs.turning.turn_rows.Goals as goal
 

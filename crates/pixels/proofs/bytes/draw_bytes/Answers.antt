@@ -1,5 +1,4 @@
 use native.Mathlib.Omega.{arith}
-use Prim.Native.Nat.{◌-◌}
 use Rattle.pixels.proofs.Crispness.{full-part}
 use Rattle.pixels.proofs.Runs.{drawn-start, drawn-more, drawn-end}
 use Rattle.pixels.proofs.bytes.draw_bytes.Goals as goal

@@ -1,5 +1,4 @@
 use native.Mathlib.Omega.{arith}
-use Prim.Native.Nat.{◌-◌}
 use Rattle.pixels.proofs.ByteWise.{full-alphas, draws-start, draws-next, draws-end}
 use Rattle.pixels.proofs.bytes.draw_some.Goals as goal
 

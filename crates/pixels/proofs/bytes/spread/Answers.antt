@@ -1,7 +1,5 @@
 use native.Mathlib.Omega.{arith}
 use mathlib.Core.Path.{◌≡◌}
-use Prim.Native.Nat.{◌-◌}
-use Rattle.pixels.specs.Steps.{inks, alphas}
 use Rattle.pixels.proofs.Spread.{spread-start, spread-next}
 use Rattle.pixels.proofs.bytes.spread.Goals as goal
 
@@ -27,12 +25,11 @@ pub loop-i-smaller : goal.loop-i-smaller
 loop-i-smaller c = omega arith
 
 pub loop-i-preserved : goal.loop-i-preserved
-loop-i-preserved c =
-    (
-      omega arith,
-      spread-next _ _ _ _ (omega arith) c.loop-i.invariant.1 c.load_dot-p.ensures c.inks.ensures c.store_dot.ensures,
-      spread-next _ _ _ _ (omega arith) c.loop-i.invariant.2 c.load_dot-p.ensures c.alphas.ensures c.store_dot-in-loop-i.ensures,
-    )
+loop-i-preserved c = (
+  omega arith,
+  spread-next _ _ _ _ (omega arith) c.loop-i.invariant.1 c.load_dot-p.ensures c.inks.ensures c.store_dot.ensures,
+  spread-next _ _ _ _ (omega arith) c.loop-i.invariant.2 c.load_dot-p.ensures c.alphas.ensures c.store_dot-in-loop-i.ensures,
+)
 
 pub shape_of-ink : goal.shape_of-ink
 shape_of-ink c = omega arith

@@ -1,6 +1,4 @@
 use native.Mathlib.Omega.{arith}
-use mathlib.Core.Bool.{true}
-use Prim.Native.Nat.{◌-◌}
 use Rattle.pixels.proofs.Crispness.{all-crisp-none, all-crisp-on, all-crisp-stop, all-crisp-end}
 use Rattle.pixels.proofs.crisp.all_crisp.Goals as goal
 

@@ -1,6 +1,5 @@
 use native.Mathlib.Omega.{arith}
 use mathlib.Core.Path.{◌≡◌}
-use Prim.Native.Nat.{◌-◌}
 use Rattle.pixels.proofs.Crispness.{all-crisp-none, all-crisp-next}
 use Rattle.pixels.proofs.crisp.crisp_piece.Goals as goal
 

@@ -1,7 +1,6 @@
 use Rattle.vectors.proofs.Digits.{bytes_next}
 use Rattle.vectors.proofs.Fronts.{front-none, front-room, front-next}
 use mathlib.Core.Path.{◌≡◌}
-use Prim.Native.Nat.{◌-◌}
 use native.Mathlib.Omega.{arith}
 use Rattle.vectors.specs.Hex.{bytes_at}
 use Rattle.vectors.proofs.hex.unpack.Goals as goal

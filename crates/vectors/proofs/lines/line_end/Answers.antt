@@ -1,6 +1,5 @@
 use Rattle.vectors.proofs.Newlines.{line-stop, line-next, line-none}
 use native.Mathlib.Omega.{arith}
-use Prim.Native.Nat.{◌-◌}
 use Rattle.vectors.specs.Lines.{line_end}
 use borrow.Author.Rules.{rules}
 use Rattle.vectors.proofs.lines.line_end.Goals as goal

@@ -1,5 +1,4 @@
 use mathlib.Core.Path.{◌≡◌, refl, sym, ap, ◌∙◌}
-use Prim.Native.Nat.{◌-◌}
 use native.Mathlib.Omega.{arith}
 use Rattle.vectors.specs.Seeds.{next_state, state_after, seeded}
 use Rattle.vectors.proofs.Seeded.{state-next, seeded-next}

@@ -1,7 +1,6 @@
 use Rattle.vectors.proofs.Checksums.{sum-next, sum-end}
 use native.Mathlib.Omega.{arith}
 use mathlib.Core.Path.{sym, ◌∙◌}
-use Prim.Native.Nat.{◌-◌}
 use Rattle.vectors.specs.Sums.{checksum_of}
 use borrow.Author.Rules.{rules}
 use Rattle.vectors.proofs.sums.checksum.Goals as goal
