@@ -1,7 +1,6 @@
 -- The rules of a run are those of the canvas: 01, "Jobs". For what numbers commands are dropped stands in job, and what kept ones make of the bytes in runs. `CommandsOnCanvas` claims that for each command both are what its canvas operation gives, and `RunOnCanvas` that a run is these operations one by one.
-use Rattle.std.specs.Prelude.{ℕ, ◌+◌, ◌*◌, ◌≤◌, ◌≡◌, List, [], ◌∷◌, true, length, take, drop, eqb}
+use Rattle.std.specs.Prelude.{ℕ, ◌+◌, ◌*◌, ◌≤◌, ◌≡◌, List, [], ◌∷◌, true, length, take, drop, eqb, if◌then◌else◌}
 use Rattle.numbers.specs.Numbers.{done}
-use Rattle.colour.specs.Choice.{if◌then◌else◌}
 use Rattle.colour.specs.declared.RGBA.{RGBA}
 use Rattle.images.specs.declared.formats.Format.TheVariants.{Bits}
 use Rattle.images.specs.Stretching.{factor}

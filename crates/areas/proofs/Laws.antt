@@ -7,7 +7,7 @@ use Prim.Native.Nat.{ℕ, ◌+◌, ◌-◌, ◌*◌, ◌/◌, ◌%◌, ◌≤◌
 use native.Mathlib.Nat.{div-lt_iff_lt-mul, le-div_iff_mul-le, div-add-mod', le-mul_of_pos_right, mul-le-mul, mul-le-mul_right, mul_comm, add-mul}
 use native.Mathlib.Omega.{arith}
 use lib.ListN.{length, get_or}
-use Rattle.colour.specs.Choice.{if◌then◌else◌}
+use Rattle.std.specs.Prelude.{if◌then◌else◌}
 use Rattle.colour.specs.declared.RGBA.{RGBA}
 use Rattle.colour.proofs.Tests.{and_both}
 use Rattle.dots.specs.Dots.{dot_at, change, within, chan}

@@ -7,7 +7,7 @@ use native.Mathlib.Omega.{arith}
 use borrow.Author.Tests.{lt-ltb, le-ltb}
 use Rattle.numbers.specs.Numbers.{limit}
 use Rattle.numbers.proofs.Sides.{area}
-use Rattle.colour.specs.Choice.{if◌then◌else◌}
+use Rattle.std.specs.Prelude.{if◌then◌else◌}
 use Rattle.dots.specs.Dots.{dot_at, change, within, drawn}
 use Rattle.dots.proofs.Laws.{change-idle, change-same, Place, before, inside, past, place, within-yes, within_low, within-high}
 use Rattle.areas.specs.Areas.{pixel_drawn}

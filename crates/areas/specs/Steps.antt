@@ -1,6 +1,5 @@
 -- A step of flipping: two rows.
-use Rattle.std.specs.Prelude.{List, ◌||◌, ℕ, ◌+◌, ◌-◌}
-use Rattle.colour.specs.Choice.{if◌then◌else◌}
+use Rattle.std.specs.Prelude.{List, ◌||◌, ℕ, ◌+◌, ◌-◌, if◌then◌else◌}
 use Rattle.colour.specs.Colour.{blended}
 use Rattle.dots.specs.Dots.{dot_at, change, within}
 

@@ -1,8 +1,7 @@
 // A row of bits drawn on dots, blending or multiplying: where a bit is 0 the dot stays, and where it
 // is 1 the colour is drawn at full alpha, by whole numbers.
-ghost use Rattle.std.specs.Prelude.{◌≡◌, ◌+◌, ◌-◌, ◌*◌, ◌/◌, ◌^◌, ◌≤◌, ◌<◌, length};
+ghost use Rattle.std.specs.Prelude.{◌≡◌, ◌+◌, ◌-◌, ◌*◌, ◌/◌, ◌^◌, ◌≤◌, ◌<◌, length, if◌then◌else◌};
 ghost use Rattle.numbers.specs.Numbers.{limit};
-ghost use Rattle.colour.specs.Choice.{if◌then◌else◌};
 ghost use Rattle.colour.specs.Colour.{with_alpha};
 ghost use Rattle.dots.specs.Dots.{tab};
 ghost use Rattle.dots.specs.Tables.{lanes, factors, terms};

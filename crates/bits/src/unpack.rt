@@ -1,7 +1,6 @@
 // A row of bits put on dots, or blended onto them.
-ghost use Rattle.std.specs.Prelude.{◌≡◌, ◌&&◌, ◌+◌, ◌-◌, ◌*◌, ◌^◌, ◌≤◌, ◌<◌, eqb, length};
+ghost use Rattle.std.specs.Prelude.{◌≡◌, ◌&&◌, ◌+◌, ◌-◌, ◌*◌, ◌^◌, ◌≤◌, ◌<◌, eqb, length, if◌then◌else◌};
 ghost use Rattle.numbers.specs.Numbers.{limit};
-ghost use Rattle.colour.specs.Choice.{if◌then◌else◌};
 ghost use Rattle.colour.specs.Colour.{with_alpha};
 ghost use Rattle.dots.specs.Dots.{tab};
 ghost use Rattle.bits.specs.Bits.{landed, Shown, bits_on, alpha_landed};

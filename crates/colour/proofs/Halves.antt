@@ -2,7 +2,7 @@
 use Rattle.std.proofs.Common.{◌≡◌, ℕ, zero, suc, ◌+◌, ◌-◌, ◌*◌, ◌/◌, ◌%◌, ◌<◌, ◌≤◌, Bool, true, false, ◌&&◌, eqb, ltb, sym, refl, ◌∙◌, subst, true≢false, not-suc-le-zero, mul-le-mul_right, mul_assoc, mul_comm, add-mul, mul-le-mul, le_antisymm, mul-le-mul_left, arith, ltb-false, ltb-true, eqb-true}
 use native.Mathlib.Nat.{mul-mod_right, mul-div_cancel_left, div-eq_of_lt-le}
 use lib.Ieee.{of_int, mul, div}
-use Rattle.colour.specs.Choice.{if◌then◌else◌}
+use Rattle.std.specs.Prelude.{if◌then◌else◌}
 use Rattle.colour.specs.Channel.{nearest, product, round_away, multiply_byte}
 use Rattle.colour.proofs.Accurate.{Close, close-product, scale}
 

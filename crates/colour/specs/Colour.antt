@@ -1,6 +1,5 @@
 -- A pixel, and a pixel c put onto a pixel s: 01, "Colour".
-use Rattle.std.specs.Prelude.{ℕ, ◌||◌, ◌==◌, nat_eq}
-use Rattle.colour.specs.Choice.{if◌then◌else◌}
+use Rattle.std.specs.Prelude.{ℕ, ◌||◌, ◌==◌, nat_eq, if◌then◌else◌}
 use Rattle.colour.specs.Channel.{blend_byte, multiply_byte}
 use Rattle.colour.specs.declared.RGBA.{RGBA}
 use Rattle.colour.specs.declared.RenderColors.{RenderColors}

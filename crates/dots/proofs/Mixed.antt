@@ -10,7 +10,7 @@ use lib.Dec.{eqb}
 use borrow.Author.Tests.{eqb-true, eqb-false, eq-eqb, ne_eqb}
 use lib.ListN.{length, get_or, set, length-set}
 use Rattle.colour.specs.declared.RGBA.{RGBA}
-use Rattle.colour.specs.Choice.{if◌then◌else◌}
+use Rattle.std.specs.Prelude.{if◌then◌else◌}
 use Rattle.colour.specs.Channel.{blend_byte, multiply_byte}
 use Rattle.colour.specs.Colour.{rgba, blended, multiplied}
 use Rattle.colour.proofs.Laws.{rgba-eq, by-256, blend-byte-full, blended-full, blended-some, multiplied-some, multiply-byte-full}

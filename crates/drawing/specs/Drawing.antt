@@ -1,6 +1,5 @@
 -- Drawing on the canvas: 01, "Canvas". t is a canvas, n the length of its buffer, and w by h what is drawn at (x, y).
-use Rattle.std.specs.Prelude.{ℕ, ◌+◌, ◌*◌, ◌/◌, ◌%◌, Bool, true, List, length}
-use Rattle.colour.specs.Choice.{if◌then◌else◌}
+use Rattle.std.specs.Prelude.{ℕ, ◌+◌, ◌*◌, ◌/◌, ◌%◌, Bool, true, List, length, if◌then◌else◌}
 use Rattle.colour.specs.declared.RGBA.{RGBA}
 use Rattle.dots.specs.Dots.{drawn, tab, chan}
 use Rattle.areas.specs.Areas.{area_on, pixel_drawn, flipped_on, bordered}

@@ -7,7 +7,7 @@ use lib.Dec.{eqb}
 use borrow.Author.Tests.{eqb-true, eqb-false, eq-eqb, ne_eqb}
 use Rattle.numbers.specs.Numbers.{limit, done, no_room, too_large, wrong_length, no_layers, layer_size}
 use Rattle.numbers.proofs.Sides.{area}
-use Rattle.colour.specs.Choice.{if◌then◌else◌}
+use Rattle.std.specs.Prelude.{if◌then◌else◌}
 use Rattle.images.specs.declared.formats.Format.{Format}
 use Rattle.images.specs.Formats.{bytes_of, raster_of}
 use Rattle.images.specs.Stretching.{is_large}

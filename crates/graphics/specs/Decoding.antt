@@ -1,7 +1,6 @@
 -- Single-colour images: 01, "Decoding". A decoded image is a pixel for each column and row.
-use Rattle.std.specs.Prelude.{ℕ, ◌*◌, ◌/◌, ◌%◌, Bool, not, List, length, ltb, eqb}
+use Rattle.std.specs.Prelude.{ℕ, ◌*◌, ◌/◌, ◌%◌, Bool, not, List, length, ltb, eqb, if◌then◌else◌}
 use Rattle.numbers.specs.Numbers.{done, no_room, too_large, wrong_length}
-use Rattle.colour.specs.Choice.{if◌then◌else◌}
 use Rattle.colour.specs.declared.RGBA.{RGBA}
 use Rattle.dots.specs.Dots.{change, within}
 use Rattle.images.specs.declared.formats.Format.{Format}

@@ -1,7 +1,6 @@
 -- Images of several layers: 01, "Decoding".
-use Rattle.std.specs.Prelude.{ℕ, zero, suc, ◌+◌, ◌-◌, ◌*◌, ◌/◌, Bool, not, ◌&&◌, ◌||◌, List, length, get_or, take, drop, ltb, eqb}
+use Rattle.std.specs.Prelude.{ℕ, zero, suc, ◌+◌, ◌-◌, ◌*◌, ◌/◌, Bool, not, ◌&&◌, ◌||◌, List, length, get_or, take, drop, ltb, eqb, if◌then◌else◌}
 use Rattle.numbers.specs.Numbers.{done, no_room, too_large, wrong_length, no_layers, layer_size}
-use Rattle.colour.specs.Choice.{if◌then◌else◌}
 use Rattle.colour.specs.Colour.{color_for_number, blended}
 use Rattle.colour.specs.declared.RGBA.{RGBA}
 use Rattle.colour.specs.declared.RenderColors.{RenderColors}

@@ -1,7 +1,6 @@
 -- Stretched images: 01, "Decoding". An image is a pixel for each column and row.
-use Rattle.std.specs.Prelude.{ℕ, ◌*◌, ◌/◌, Bool, ◌||◌, List, ltb, eqb}
+use Rattle.std.specs.Prelude.{ℕ, ◌*◌, ◌/◌, Bool, ◌||◌, List, ltb, eqb, if◌then◌else◌}
 use Rattle.numbers.specs.Numbers.{limit}
-use Rattle.colour.specs.Choice.{if◌then◌else◌}
 use Rattle.colour.specs.Colour.{with_alpha}
 use Rattle.colour.specs.declared.RGBA.{RGBA}
 use Rattle.images.specs.declared.formats.Format.{Format}

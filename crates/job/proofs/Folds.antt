@@ -8,7 +8,7 @@ use borrow.Author.Tests.{eq-eqb, ne_eqb, eqb-true}
 use lib.ListN.{length, set, replicate, length-append}
 use lib.Seq.{set-append_seam, append_snoc}
 use Rattle.numbers.specs.Numbers.{limit, done}
-use Rattle.colour.specs.Choice.{if◌then◌else◌}
+use Rattle.std.specs.Prelude.{if◌then◌else◌}
 use Rattle.job.specs.declared.commands.Command.{Command}
 use Rattle.job.specs.declared.commands.Command.TheVariants.{Rectangle, Image, Margin, Flip}
 use Rattle.job.specs.Dropping.{most_commands, reason_of, height_after, kept, next_height, height_from, kept_from, dropped_from, filled_up}

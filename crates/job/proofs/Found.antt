@@ -7,7 +7,7 @@ use native.Mathlib.Omega.{arith}
 use borrow.Author.Tests.{le-ltb, lt-ltb, le-leb, lt-leb, leb-true, leb-false, ltb-false}
 use lib.ListN.{length}
 use lib.Dec.{ltb, leb}
-use Rattle.colour.specs.Choice.{if◌then◌else◌}
+use Rattle.std.specs.Prelude.{if◌then◌else◌}
 use Rattle.job.specs.declared.records.Rec.{Rec}
 use Rattle.job.specs.declared.records.Rec.TheVariants.{Record, Bad, End}
 use Rattle.job.specs.Records.{le16, le32, record_at, Records, ended, broken, rec, record_then, up_to, records}

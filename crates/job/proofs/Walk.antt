@@ -8,7 +8,7 @@ use borrow.Author.Tests.{lt-ltb, le-ltb, ltb-false}
 use lib.Dec.{ltb}
 use lib.ListN.{length, length-append}
 use Rattle.numbers.specs.Numbers.{limit, done, bad_job, too_long}
-use Rattle.colour.specs.Choice.{if◌then◌else◌}
+use Rattle.std.specs.Prelude.{if◌then◌else◌}
 use Rattle.colour.proofs.Tests.{and_both}
 use Rattle.job.specs.declared.records.Rec.{Rec}
 use Rattle.job.specs.declared.records.Rec.TheVariants.{Record, Bad, End}

@@ -1,7 +1,6 @@
 -- What a job is refused for, and what its commands are dropped for: 01, "Jobs". A run starts at height 0 with growth on; W is the paper's width and H the height so far.
-use Rattle.std.specs.Prelude.{ℕ, ◌+◌, ◌-◌, ◌*◌, max, List, [], ◌∷◌, ◌++◌, Bool, true, not, length, replicate, ltb, eqb}
+use Rattle.std.specs.Prelude.{ℕ, ◌+◌, ◌-◌, ◌*◌, max, List, [], ◌∷◌, ◌++◌, Bool, true, not, length, replicate, ltb, eqb, if◌then◌else◌}
 use Rattle.numbers.specs.Numbers.{done, too_large, wrong_length, bad_job, too_long}
-use Rattle.colour.specs.Choice.{if◌then◌else◌}
 use Rattle.refusals.specs.Refusals.{first, tall_refusal, side_refusal, off_refusal, across_refusal, empty_refusal}
 use Rattle.images.specs.declared.formats.Format.TheVariants.{Bits}
 use Rattle.images.specs.Formats.{bytes_of}

@@ -1,6 +1,5 @@
 -- The records of a job: 01, "Jobs". s is the job's bytes throughout.
-use Rattle.std.specs.Prelude.{ℕ, zero, suc, ◌+◌, ◌-◌, ◌*◌, ◌≤◌, List, ◌||◌, length, get_or, ltb, leb}
-use Rattle.colour.specs.Choice.{if◌then◌else◌}
+use Rattle.std.specs.Prelude.{ℕ, zero, suc, ◌+◌, ◌-◌, ◌*◌, ◌≤◌, List, ◌||◌, length, get_or, ltb, leb, if◌then◌else◌}
 use Rattle.colour.specs.Colour.{rgba}
 use Rattle.colour.specs.declared.RGBA.{RGBA}
 use Rattle.job.specs.declared.records.Rec.{Rec}

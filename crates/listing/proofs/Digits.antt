@@ -10,7 +10,7 @@ use borrow.Author.Tests.{lt-ltb, le-ltb, ltb-true, ltb-false}
 use lib.ListN.{length, set, length-append}
 use lib.Seq.{set_comm, sets, length-sets}
 use lib.Dec.{ltb}
-use Rattle.colour.specs.Choice.{if◌then◌else◌}
+use Rattle.std.specs.Prelude.{if◌then◌else◌}
 use Rattle.listing.specs.Listing.{digit, digits_by, digits}
 
 -- ---- the digits of a number

@@ -11,7 +11,7 @@ use lib.ListN.{length, get_or, set, take, drop, length-append, length-drop, leng
 use lib.Seq.{sets, sets-eq, length-sets, take-suc, take-length, length-take-le}
 use lib.Dec.{ltb}
 use Rattle.numbers.specs.Numbers.{done, no_room}
-use Rattle.colour.specs.Choice.{if◌then◌else◌}
+use Rattle.std.specs.Prelude.{if◌then◌else◌}
 use Rattle.listing.specs.declared.Written.{Written}
 use Rattle.listing.specs.Listing.{ascii, digits, part, newline, paper_line, row_line, refused_line, text_on, text_given}
 

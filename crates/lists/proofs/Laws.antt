@@ -11,7 +11,7 @@ use lib.ListN.{length, get_or, take}
 use lib.Seq.{take-suc, take-length}
 use lib.Dec.{eqb}
 use Rattle.numbers.specs.Numbers.{limit, done}
-use Rattle.colour.specs.Choice.{if◌then◌else◌}
+use Rattle.std.specs.Prelude.{if◌then◌else◌}
 use Rattle.colour.specs.declared.RGBA.{RGBA}
 use Rattle.dots.specs.Dots.{change, within}
 use Rattle.entries.specs.declared.Entry.{Entry}

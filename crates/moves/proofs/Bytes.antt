@@ -7,7 +7,7 @@ use Prim.Native.Nat.{ℕ, ◌+◌, ◌-◌, ◌*◌, ◌≤◌, ◌<◌}
 use native.Mathlib.Omega.{arith}
 use lib.ListN.{length, get_or, set, length-set, get_or-eq_default}
 use lib.Seq.{get_or-set_same, get_or-set_other}
-use Rattle.colour.specs.Choice.{if◌then◌else◌}
+use Rattle.std.specs.Prelude.{if◌then◌else◌}
 use Rattle.dots.specs.Dots.{dot_at, change, within}
 use Rattle.dots.proofs.Laws.{below, length-tab, get_or-tab, tab-ext, byte_of, dot-of, change-ext, Place, before, inside, past, place, within-yes, within_low, within-high, within-true, within-then}
 use Rattle.moves.specs.Parts.{over}

@@ -7,7 +7,7 @@ use native.Mathlib.Omega.{arith}
 use lib.ListN.{length, get_or}
 use lib.Dec.{ltb}
 use borrow.Author.Tests.{lt-ltb, le-ltb}
-use Rattle.colour.specs.Choice.{if◌then◌else◌}
+use Rattle.std.specs.Prelude.{if◌then◌else◌}
 use Rattle.colour.specs.declared.RGBA.{RGBA}
 use Rattle.dots.specs.Dots.{dot_at, chan, change, within}
 use Rattle.dots.proofs.Laws.{length-change, change-picked, change-kept, change-same, change-idle, run_none, Place, before, inside, past, place, within-yes, within_low, within-high, within-true}

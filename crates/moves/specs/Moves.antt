@@ -1,6 +1,5 @@
 -- Whole pictures of dots: moved, widened, turned, copied, and written as RGB. 01, "Canvas".
-use Rattle.std.specs.Prelude.{List, ℕ, ◌+◌, ◌-◌, ◌*◌, ◌/◌, ◌%◌, ltb}
-use Rattle.colour.specs.Choice.{if◌then◌else◌}
+use Rattle.std.specs.Prelude.{List, ℕ, ◌+◌, ◌-◌, ◌*◌, ◌/◌, ◌%◌, ltb, if◌then◌else◌}
 use Rattle.colour.specs.declared.RGBA.{RGBA}
 use Rattle.dots.specs.Dots.{dot_at, chan, change, within}
 use Rattle.moves.specs.declared.turned.Turn.{Turn}

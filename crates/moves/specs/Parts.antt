@@ -1,6 +1,5 @@
 -- Bytes of a buffer that are written.
-use Rattle.std.specs.Prelude.{List, Bool, ℕ, length, get_or}
-use Rattle.colour.specs.Choice.{if◌then◌else◌}
+use Rattle.std.specs.Prelude.{List, Bool, ℕ, length, get_or, if◌then◌else◌}
 use Rattle.dots.specs.Dots.{tab}
 
 -- the bytes that p picks become F's, and every other is as it was

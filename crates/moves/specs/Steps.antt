@@ -1,6 +1,5 @@
 -- Steps of turning a picture by a quarter.
-use Rattle.std.specs.Prelude.{Bool, true, false, ◌&&◌, ℕ, ◌-◌, ◌/◌, ◌%◌}
-use Rattle.colour.specs.Choice.{if◌then◌else◌}
+use Rattle.std.specs.Prelude.{Bool, true, false, ◌&&◌, ℕ, ◌-◌, ◌/◌, ◌%◌, if◌then◌else◌}
 use Rattle.dots.specs.Dots.{within}
 use Rattle.moves.specs.declared.turned.Turn.{Turn}
 use Rattle.moves.specs.declared.turned.Turn.TheVariants.{Quarter, ThreeQuarters}

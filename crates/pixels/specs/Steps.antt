@@ -1,6 +1,5 @@
 -- Steps of drawing pixels: whether all of them are clear or opaque, and the inks and alphas with which their bytes are drawn one by one.
-use Rattle.std.specs.Prelude.{List, Bool, true, ◌&&◌, ◌||◌, ℕ, zero, suc, ◌+◌, ◌*◌, eqb}
-use Rattle.colour.specs.Choice.{if◌then◌else◌}
+use Rattle.std.specs.Prelude.{List, Bool, true, ◌&&◌, ◌||◌, ℕ, zero, suc, ◌+◌, ◌*◌, eqb, if◌then◌else◌}
 use Rattle.colour.specs.declared.RGBA.{RGBA}
 use Rattle.colour.specs.Channel.{nearest, blend_byte}
 use Rattle.colour.specs.Colour.{rgba, white}

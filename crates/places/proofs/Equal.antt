@@ -7,7 +7,7 @@ use native.Mathlib.Omega.{arith}
 use lib.Dec.{ltb}
 use borrow.Author.Tests.{eq-eqb, lt-ltb, le-ltb}
 use Rattle.numbers.specs.Numbers.{done, short}
-use Rattle.colour.specs.Choice.{if◌then◌else◌}
+use Rattle.std.specs.Prelude.{if◌then◌else◌}
 use Rattle.refusals.specs.Refusals.{first, canvas_refusal, side_refusal, off_refusal}
 use Rattle.refusals.proofs.Codes.{first-none}
 use Rattle.thermal_image.specs.declared.ThermalImage.{ThermalImage}

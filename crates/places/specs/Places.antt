@@ -1,7 +1,6 @@
 -- Where drawing lands on the canvas, and what it is refused for, by sizes and lengths alone: 01, "Canvas". t is a canvas, n the length of its buffer, and w by h what is drawn at (x, y).
-use Rattle.std.specs.Prelude.{ℕ, ◌+◌, ◌-◌, ◌*◌, ◌/◌, ◌%◌, min, max, Bool, not, ◌&&◌, ◌||◌, ltb, leb, eqb}
+use Rattle.std.specs.Prelude.{ℕ, ◌+◌, ◌-◌, ◌*◌, ◌/◌, ◌%◌, min, max, Bool, not, ◌&&◌, ◌||◌, ltb, leb, eqb, if◌then◌else◌}
 use Rattle.numbers.specs.Numbers.{done, wrong_length, too_many, short}
-use Rattle.colour.specs.Choice.{if◌then◌else◌}
 use Rattle.refusals.specs.Refusals.{first, canvas_refusal, tall_refusal, room_refusal, side_refusal, off_refusal, across_refusal, empty_refusal}
 use Rattle.thermal_image.specs.declared.ThermalImage.{ThermalImage}
 

@@ -1,7 +1,6 @@
 -- Row plans: 01, "Row plans".
-use Rattle.std.specs.Prelude.{ℕ, ◌+◌, List, [], ◌∷◌, Bool, true, false, ◌||◌, length, eqb}
+use Rattle.std.specs.Prelude.{ℕ, ◌+◌, List, [], ◌∷◌, Bool, true, false, ◌||◌, length, eqb, if◌then◌else◌}
 use Rattle.numbers.specs.Numbers.{done, not_translated}
-use Rattle.colour.specs.Choice.{if◌then◌else◌}
 use Rattle.colour.specs.Colour.{blank}
 use Rattle.colour.specs.declared.RGBA.{RGBA}
 use Rattle.images.specs.Stretching.{factor}

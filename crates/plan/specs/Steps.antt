@@ -1,7 +1,6 @@
 -- Inner steps of a translation: what is made of a plan record at each command.
-use Rattle.std.specs.Prelude.{ℕ, zero, suc, ◌+◌, ◌≤◌, ◌<◌, max, List, [], ◌∷◌, get_or, set}
+use Rattle.std.specs.Prelude.{ℕ, zero, suc, ◌+◌, ◌≤◌, ◌<◌, max, List, [], ◌∷◌, get_or, set, if◌then◌else◌}
 use Rattle.numbers.specs.Numbers.{limit}
-use Rattle.colour.specs.Choice.{if◌then◌else◌}
 use Rattle.images.specs.Stretching.{factor}
 use Rattle.job.specs.declared.commands.Command.{Command}
 use Rattle.job.specs.declared.commands.Command.TheVariants.{Rectangle, Image, Margin, Flip}

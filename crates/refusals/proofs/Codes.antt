@@ -6,7 +6,7 @@ use native.Mathlib.Omega.{arith}
 use lib.Dec.{ltb, leb, eqb}
 use borrow.Author.Tests.{ltb-false, leb-false, eqb-true, eqb-false, lt-ltb, le-ltb, lt-leb, eq-eqb, ne_eqb}
 use Rattle.numbers.specs.Numbers.{limit, done, bad_canvas}
-use Rattle.colour.specs.Choice.{if◌then◌else◌}
+use Rattle.std.specs.Prelude.{if◌then◌else◌}
 use Rattle.colour.proofs.Tests.{neither}
 use Rattle.refusals.specs.Refusals.{first, canvas_refusal, tall_refusal, wide_refusal, room_refusal, rgb_room_refusal, side_refusal, off_refusal, across_refusal, empty_refusal, rows_of, grow_refusal, margin_refusal, width_refusal, widen_refusal, out_refusal, rgb_refusal}
 

@@ -1,7 +1,6 @@
 -- What the canvas's own operations are refused for, and 2, 5 and 10 of what is drawn on it, by sizes and lengths alone: 01, "Canvas". The canvas is W by H dots, and n is the length of its buffer. Jobs share 2, 5, 8, 10 and 1.
-use Rattle.std.specs.Prelude.{ℕ, ◌+◌, ◌*◌, max, Bool, not, ◌&&◌, ◌||◌, ltb, leb, eqb}
+use Rattle.std.specs.Prelude.{ℕ, ◌+◌, ◌*◌, max, Bool, not, ◌&&◌, ◌||◌, ltb, leb, eqb, if◌then◌else◌}
 use Rattle.numbers.specs.Numbers.{limit, done, no_room, too_large, off_paper, too_tall, bad_canvas, empty_area}
-use Rattle.colour.specs.Choice.{if◌then◌else◌}
 
 -- the first number that is not 0
 unfoldable pub first : ℕ → ℕ → ℕ

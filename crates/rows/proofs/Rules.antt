@@ -10,7 +10,7 @@ use borrow.Author.Tests.{leb-true, ltb-false, le-leb, lt-leb, lt-ltb, le-ltb}
 use lib.Dec.{ltb, leb}
 use lib.ListN.{length, get_or}
 use Rattle.numbers.specs.Numbers.{limit, done, no_room, bad_plan, no_row}
-use Rattle.colour.specs.Choice.{if◌then◌else◌}
+use Rattle.std.specs.Prelude.{if◌then◌else◌}
 use Rattle.colour.proofs.Tests.{and_both}
 use Rattle.dots.proofs.Laws.{below}
 use Rattle.entries.specs.declared.Entry.{Entry}

@@ -1,7 +1,6 @@
 -- The row of a plan, and its ink: 01, "Row plans". s is the given bytes, es the entries, W and H the plan's width and height.
-use Rattle.std.specs.Prelude.{ℕ, zero, suc, ◌+◌, ◌*◌, ◌/◌, ◌%◌, List, [], ◌∷◌, ◌++◌, Bool, true, not, ◌&&◌, length, get_or, ltb, leb, eqb}
+use Rattle.std.specs.Prelude.{ℕ, zero, suc, ◌+◌, ◌*◌, ◌/◌, ◌%◌, List, [], ◌∷◌, ◌++◌, Bool, true, not, ◌&&◌, length, get_or, ltb, leb, eqb, if◌then◌else◌}
 use Rattle.numbers.specs.Numbers.{limit, done, no_room, bad_plan, no_row}
-use Rattle.colour.specs.Choice.{if◌then◌else◌}
 use Rattle.colour.specs.declared.RGBA.{RGBA}
 use Rattle.dots.specs.Dots.{dot_at, change, within}
 use Rattle.entries.specs.declared.Entry.{Entry}

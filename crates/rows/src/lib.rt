@@ -2,9 +2,8 @@
 // its ink, or some rows at once.
 #![tactic(auto)]
 
-ghost use Rattle.std.specs.Prelude.{◌≡◌, true, ◌+◌, ◌*◌, ◌≤◌, length};
+ghost use Rattle.std.specs.Prelude.{◌≡◌, true, ◌+◌, ◌*◌, ◌≤◌, length, if◌then◌else◌};
 ghost use Rattle.numbers.specs.Numbers.{limit, done};
-ghost use Rattle.colour.specs.Choice.{if◌then◌else◌};
 ghost use Rattle.rows.specs.Rows.{good_sizes, good_entries, good_plan, refusal_of, rows_refusal, rows_on, has_ink, ink, used, plan_written, plan_given, plan_rows_refusal, plan_rows_written};
 ghost use Rattle.rows.specs.Steps.{band_on};
 

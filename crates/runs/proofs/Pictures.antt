@@ -7,7 +7,7 @@ use mathlib.Core.Bool.{Bool, ◌&&◌}
 use native.Mathlib.Nat.{mod-lt, div-add-mod', div-lt_iff_lt-mul, mul-le-mul_right, mul_comm, add-mul}
 use native.Mathlib.Omega.{arith}
 use lib.ListN.{length}
-use Rattle.colour.specs.Choice.{if◌then◌else◌}
+use Rattle.std.specs.Prelude.{if◌then◌else◌}
 use Rattle.colour.specs.declared.RGBA.{RGBA}
 use Rattle.dots.specs.Dots.{dot_at, within}
 use Rattle.dots.proofs.Laws.{Place, before, inside, past, place, below, within-yes, within_low, within-high, length-change, change-ext, change-picked, change-kept}

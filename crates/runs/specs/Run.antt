@@ -1,7 +1,6 @@
 -- The run of a job on a canvas: 01, "Jobs".
-use Rattle.std.specs.Prelude.{ℕ, List, [], true, false, length, eqb}
+use Rattle.std.specs.Prelude.{ℕ, List, [], true, false, length, eqb, if◌then◌else◌}
 use Rattle.numbers.specs.Numbers.{done}
-use Rattle.colour.specs.Choice.{if◌then◌else◌}
 use Rattle.colour.specs.Colour.{blank}
 use Rattle.job.specs.declared.dropping.Dropped.{Dropped}
 use Rattle.job.specs.Commands.{paper_width, paper_color}

@@ -1,7 +1,6 @@
 -- Inner steps of a run: what is made of the canvas's bytes at each command, and the survey before the first. W is the paper's width, H the height so far.
-use Rattle.std.specs.Prelude.{ℕ, ◌+◌, ◌*◌, ◌≤◌, max, List, length, set}
+use Rattle.std.specs.Prelude.{ℕ, ◌+◌, ◌*◌, ◌≤◌, max, List, length, set, if◌then◌else◌}
 use Rattle.numbers.specs.Numbers.{limit}
-use Rattle.colour.specs.Choice.{if◌then◌else◌}
 use Rattle.colour.specs.declared.RGBA.{RGBA}
 use Rattle.images.specs.Stretching.{factor}
 use Rattle.areas.specs.Areas.{flipped_on}

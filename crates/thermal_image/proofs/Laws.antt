@@ -8,7 +8,7 @@ use native.Mathlib.Omega.{arith}
 use lib.ListN.{length}
 use lib.Dec.{eqb}
 use Rattle.numbers.specs.Numbers.{done}
-use Rattle.colour.specs.Choice.{if◌then◌else◌}
+use Rattle.std.specs.Prelude.{if◌then◌else◌}
 use Rattle.dots.specs.Dots.{dot_at}
 use Rattle.moves.specs.Moves.{lowered_on}
 use Rattle.moves.proofs.Laws.{lowered-paper, lowered-dot}

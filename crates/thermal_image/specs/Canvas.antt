@@ -1,7 +1,6 @@
 -- The canvas: 01, "Canvas". W, H, growth flag and paper colour; the dots row by row in the first 4·W·H bytes of a lent buffer.
-use Rattle.std.specs.Prelude.{ℕ, ◌+◌, ◌-◌, ◌*◌, ◌/◌, max, Bool, true, false, List, length, leb, eqb}
+use Rattle.std.specs.Prelude.{ℕ, ◌+◌, ◌-◌, ◌*◌, ◌/◌, max, Bool, true, false, List, length, leb, eqb, if◌then◌else◌}
 use Rattle.numbers.specs.Numbers.{done}
-use Rattle.colour.specs.Choice.{if◌then◌else◌}
 use Rattle.colour.specs.declared.RGBA.{RGBA}
 use Rattle.colour.specs.Colour.{blank, white}
 use Rattle.dots.specs.Dots.{change, within}

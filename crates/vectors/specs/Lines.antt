@@ -1,6 +1,5 @@
 -- Lines, and the tally of those that agree.
-use Rattle.std.specs.Prelude.{ℕ, suc, ◌+◌, Bool, List, [], ◌∷◌, drop, eqb}
-use Rattle.colour.specs.Choice.{if◌then◌else◌}
+use Rattle.std.specs.Prelude.{ℕ, suc, ◌+◌, Bool, List, [], ◌∷◌, drop, eqb, if◌then◌else◌}
 use Rattle.vectors.specs.declared.lines.Tally.{Tally}
 
 -- how many bytes up to the first newline, which counts, or to the end

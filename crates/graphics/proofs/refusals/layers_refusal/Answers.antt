@@ -5,7 +5,7 @@ use Prim.Native.Nat.{◌+◌, ◌*◌, ◌≤◌}
 use native.Mathlib.Nat.{mul-le-mul}
 use native.Mathlib.Omega.{arith}
 use Rattle.numbers.specs.Numbers.{done, no_room, layer_size}
-use Rattle.colour.specs.Choice.{if◌then◌else◌}
+use Rattle.std.specs.Prelude.{if◌then◌else◌}
 use Rattle.images.specs.Formats.{bytes_of, raster_of}
 use Rattle.images.specs.Stretching.{is_large}
 use Rattle.graphics.specs.Decoding.{lacks_room}
