@@ -8,7 +8,9 @@ import subprocess
 import sys
 from concurrent.futures import ThreadPoolExecutor
 
-COPY = "target/edits"
+COPIES = "target/edits"
+# an edit names a function, or a claim, whose name begins like a type's, before a colon
+NAMED = re.compile(r"((?:[A-Za-z0-9_]+::)*[a-z][A-Za-z0-9_]*|(?:[A-Za-z0-9_]+::)+[A-Za-z0-9_]+):(?: |$)")
 FUNCTION = re.compile(r"^( *)(?:pub(?:\(crate\))? )?(?:extern \"C\" )?fn ([a-z0-9_]+)[<(]", re.M)
 # what says that a proof file no longer fits the text, and not that a fact does not hold
 UNFIT = re.compile(r"that can be named from here|has no field|is not in scope|was not admitted")
@@ -62,9 +64,9 @@ def changed(folder, pairs):
     return names
 
 
-def check(crate, pairs):
-    """What `rt check` says of the crate's copy with these pairs applied. The copy is put back."""
-    folder, was = f"{COPY}/crates/{crate}", {}
+def check(folder, pairs):
+    """What `rt check` says of the crate in the folder with these pairs applied. The folder is put back."""
+    was = {}
     for file, old, new in pairs:
         with open(f"{folder}/{file}", encoding="utf-8") as source:
             text = source.read()
@@ -90,37 +92,51 @@ def unproved(said, name):
     return bool(re.search(rf"^fn \S*::{re.escape(name.split('::')[-1])}: (no proof|not proved)", said, re.M))
 
 
-def judge(crate):
-    """What is wrong with the edits of a crate."""
-    wrong, folder = [], f"{COPY}/crates/{crate}"
-    edits = sorted(os.listdir(f"{folder}/must-fail")) if os.path.isdir(f"{folder}/must-fail") else []
-    for edit in edits:
-        all_of_it = mistakes(f"{folder}/must-fail/{edit}")
-        said = check(crate, [pair for _, pairs in all_of_it for pair in pairs])
-        for told, pairs in all_of_it:
+def refused(said, told, names):
+    """Whether one of the functions that a mistake changes fails by itself, and each that it names is unproved."""
+    named = [m.group(1) for m in map(NAMED.match, told) if m]
+    return (not names or any(fails(said, name) for name in names)) and all(unproved(said, name) for name in named)
+
+
+def judge(copy, crate):
+    """The mistakes of the crate's edits that nothing of theirs is refused for."""
+    folder, unharmed = f"{copy}/crates/{crate}", []
+    for edit in sorted(os.listdir(f"{folder}/must-fail")):
+        of_edit = mistakes(f"{folder}/must-fail/{edit}")
+        said = check(folder, [pair for _, pairs in of_edit for pair in pairs])
+        for told, pairs in of_edit:
             names = changed(folder, pairs)
-            named = {line.split(":")[0] for line in told if re.match(r"[a-z_]+:|[A-Za-z_]+::[a-z_]+:", line)}
+            if not refused(said, told, names) and not refused(check(folder, pairs), told, names):
+                unharmed.append(f"{crate}/must-fail/{edit}: {'; '.join(told)}")
+    return unharmed
 
-            def refused(text):
-                return (not names or any(fails(text, name) for name in names)) and all(unproved(text, name) for name in named)
 
-            if not refused(said) and (len(all_of_it) == 1 or not refused(check(crate, pairs))):
-                wrong.append(f"{crate}/must-fail/{edit}: {'; '.join(told)}")
-    return wrong
+def work(number, left):
+    """Judges crates on a copy of its own until none is left."""
+    copy, unharmed = f"{COPIES}/{number}", []
+    os.makedirs(copy)
+    shutil.copytree("crates", f"{copy}/crates")
+    for name in ("crates.txt", "HANDLES"):
+        if os.path.exists(name):
+            shutil.copy(name, copy)
+    while True:
+        try:
+            crate = left.pop()
+        except IndexError:
+            return unharmed
+        unharmed += judge(copy, crate)
 
 
 def main():
-    shutil.rmtree(COPY, ignore_errors=True)
-    os.makedirs(COPY)
-    for name in ("crates", "crates.txt", "HANDLES"):
-        if os.path.isdir(name):
-            shutil.copytree(name, f"{COPY}/{name}")
-        elif os.path.exists(name):
-            shutil.copy(name, f"{COPY}/{name}")
-    wrong = [line for crate in crates() for line in judge(crate)]
-    shutil.rmtree(COPY, ignore_errors=True)
-    if wrong:
-        sys.exit("mistakes that no function of theirs is refused for:\n" + "\n".join(wrong))
+    shutil.rmtree(COPIES, ignore_errors=True)
+    # the crate with most edits is the last of the list, and so the first that is taken
+    left = sorted((name for name in crates() if os.path.isdir(f"crates/{name}/must-fail")), key=lambda name: len(os.listdir(f"crates/{name}/must-fail")))
+    workers = os.cpu_count() or 1
+    with ThreadPoolExecutor(workers) as pool:
+        unharmed = [line for lines in pool.map(lambda number: work(number, left), range(workers)) for line in lines]
+    shutil.rmtree(COPIES, ignore_errors=True)
+    if unharmed:
+        sys.exit("mistakes that no function of theirs is refused for:\n" + "\n".join(sorted(unharmed)))
 
 
 if __name__ == "__main__":

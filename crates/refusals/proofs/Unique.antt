@@ -1,7 +1,7 @@
 -- The contract of each step leaves one answer. Assumes nothing.
 use Rattle.numbers.proofs.OneAnswer.{OneAnswer, both}
 use Rattle.refusals.proofs.first.Reads as first
-use Rattle.refusals.proofs.rows_of.Reads as rows_of_lem
+use Rattle.refusals.proofs.rows_of.Reads as rows-of
 use Rattle.refusals.proofs.tall_refusal.Reads as tall-refusal
 use Rattle.refusals.proofs.wide_refusal.Reads as wide-refusal
 use Rattle.refusals.proofs.room_refusal.Reads as room-refusal
@@ -20,7 +20,7 @@ use Rattle.refusals.proofs.rgb_refusal.Reads as rgb-refusal
 first_one : OneAnswer first.Post
 first_one k a x y e f p q = both p q
 
-rows-of-one : OneAnswer rows_of_lem.Post
+rows-of-one : OneAnswer rows-of.Post
 rows-of-one k a x y e f p q = both p q
 
 tall-refusal-one : OneAnswer tall-refusal.Post

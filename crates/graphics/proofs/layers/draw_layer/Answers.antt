@@ -33,6 +33,3 @@ decode_single_color-requires c =
 pub returns : goal.returns
 returns c =
     layer-drawn _ _ _ c.args.source _ _ _ c.requires.k_bound.1.format c.layer_bytes-size.ensures c.color_for_number-color.ensures c.in_color.ensures c.decode_single_color.ensures
-
--- DROPPED slice-bounds-decode-single-color-end
--- ends c.before.before.before
