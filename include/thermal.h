@@ -1,9 +1,8 @@
 /*
  * thermal.h: the drawing core of a printer-strip renderer, for C and C++.
  *
- * The library is target/staticlib/libthermal.a, which `bindings/library` proves and writes. It is for
- * x86-64 with SSE4.2 (x86-64-v2) and needs only the C library. Nothing here allocates, keeps state or
- * stops.
+ * The library is target/staticlib/libthermal.a, which `bindings/library` proves and writes. It is
+ * for x86-64 and needs only the C library. Nothing here allocates, keeps state or stops.
  *
  * Numbers. An operation gives THERMAL_DONE or one of the refusals below. "Numbers:" lists those that
  * an operation can give, in the order in which they are tested: the first that applies is given.
