@@ -1,5 +1,6 @@
 //! A call with one dot or colour.
 
+use crate::fault;
 use crate::library;
 use crate::question::{below, plainer, vary, Question};
 use crate::report::{Report, Verdict};
@@ -81,7 +82,7 @@ impl Call {
 
     /// The original has an answer to every input: where it stops, that is a difference.
     pub fn difference_from(&self, rust: Option<u32>) -> Option<String> {
-        let ours = self.ours();
+        let ours = fault::on_its_way(self.ours());
         (rust != Some(ours)).then(|| answers(rust, ours))
     }
 }
@@ -93,7 +94,7 @@ pub fn answers(rust: Option<u32>, ours: u32) -> String {
 
 pub fn compare(report: &mut Report, name: &str, calls: impl Iterator<Item = Call>) {
     let row = report.row(name);
-    for call in calls {
+    for call in calls.take(report.most()) {
         report.count(row, &Verdict::done(call.difference()), || call);
     }
 }

@@ -1,4 +1,5 @@
 pub mod Laws
 pub mod Equal
 mod Growing
+mod Examples
 mod Unique

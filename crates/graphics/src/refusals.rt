@@ -14,7 +14,15 @@ fn lacks_room(w: u32, h: u32, fx: u32, fy: u32, room: usize) -> bool
     room < 4 * ((w * fx) as usize * (h * fy) as usize)
 }
 
-pub fn refusal_of(format: Format, w: u32, h: u32, fx: u32, fy: u32, n: usize, room: usize) -> u8
+pub(crate) fn refusal_of(
+    format: Format,
+    w: u32,
+    h: u32,
+    fx: u32,
+    fy: u32,
+    n: usize,
+    room: usize,
+) -> u8
     requires { (fx ≤ 255) × (fy ≤ 255) }
     ensures { result ≡ refusal format w h fx fy n room }
 {
@@ -30,7 +38,7 @@ pub fn refusal_of(format: Format, w: u32, h: u32, fx: u32, fy: u32, n: usize, ro
     DONE
 }
 
-pub fn layer_bytes(bits: bool, w: usize, h: usize) -> usize
+pub(crate) fn layer_bytes(bits: bool, w: usize, h: usize) -> usize
     requires { (w ≤ limit) × (h ≤ limit) }
     ensures { result ≡ layer_bytes bits w h }
 {
@@ -50,7 +58,7 @@ fn outgrows(w: u32, h: u32, later_w: u32, later_h: u32) -> bool
     h < later_h
 }
 
-pub fn layers_refusal(
+pub(crate) fn layers_refusal(
     bits: bool,
     w: u32,
     h: u32,

@@ -1,5 +1,7 @@
 mod Digits
 pub mod Lines
+pub mod Rows
 mod Jobs
+pub mod Whole
 mod Examples
 mod Unique

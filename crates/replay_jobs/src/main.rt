@@ -3,12 +3,13 @@
 // a head of fixed places, and then the job.
 #![tactic(auto)]
 
+mod lent;
 mod planned;
 
 ghost use Rattle.std.specs.Prelude.{◌≤◌, length};
 
 use input::read_full;
-use job::Dropped;
+use job::DroppedList;
 use planned::plan_agrees;
 use runs::Ran;
 use std::fs::File;
@@ -90,20 +91,20 @@ fn says(line: &[u8], r: Ran) -> bool
     if !is_record(line, 10, t.width, t.height, t.auto_grow, t.paper_color) {
         return false;
     }
-    if r.dropped_count != byte_at(line, 39) as usize {
+    let dropped = r.dropped;
+    if dropped.count != byte_at(line, 39) as usize {
         return false;
     }
-    let dropped = r.dropped;
-    listed(dropped, r.dropped_count) == number_at(line, 42, 8)
+    listed(dropped) == number_at(line, 42, 8)
 }
 
 // The checksum of a dropped list: two bytes each, place and reason.
-fn listed(dropped: [Dropped; 64], count: usize) -> u32 {
+fn listed(dropped: DroppedList) -> u32 {
     let mut sum = NO_BYTES;
     let mut i = 0;
     while i < 64 {
-        if i < count {
-            let d = dropped[i];
+        if i < dropped.count {
+            let d = dropped.list[i];
             sum = sum_with(sum_with(sum, (d.place % 256) as u8), d.reason);
         }
         i += 1;

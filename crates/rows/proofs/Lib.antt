@@ -1,4 +1,5 @@
 pub mod Rules
 pub mod Lines
 pub mod Answers
+pub mod Planned
 mod Unique

@@ -9,21 +9,19 @@ ghost use Rattle.runs.specs.Run.{ran, run_on, refused_run};
 
 use colour::RGBA;
 use draw::draw_all;
-use job::Dropped;
+use job::DroppedList;
 use numbers::DONE;
 use refusals::room_refusal;
 use survey::look_over;
 use thermal_image::ThermalImage;
 
-// What a run answers: the number, the canvas, and the dropped commands, which are the first
-// `dropped_count`. All other places are zero.
+// What a run answers: the number, the canvas, and the dropped commands.
 #[repr(C)]
 #[derive(Clone, Copy)]
 pub struct Ran {
     pub number: u8,
     pub image: ThermalImage,
-    pub dropped_count: usize,
-    pub dropped: [Dropped; 64],
+    pub dropped: DroppedList,
 }
 
 fn refused(number: u8) -> Ran
@@ -35,14 +33,11 @@ fn refused(number: u8) -> Ran
         auto_grow: false,
         paper_color: RGBA::BLANK,
     };
+    let dropped = DroppedList::none();
     Ran {
         number,
         image,
-        dropped_count: 0,
-        dropped: [Dropped {
-            place: 0,
-            reason: 0,
-        }; 64],
+        dropped,
     }
 }
 
@@ -74,7 +69,6 @@ pub fn run(s: &[u8], buf: &mut [u8]) -> Ran
     Ran {
         number: DONE,
         image,
-        dropped_count: v.dropped_count,
         dropped,
     }
 }

@@ -7,3 +7,4 @@ pub mod colours;
 pub mod decoders;
 pub mod draw;
 pub mod jobs;
+pub mod version;

@@ -1,4 +1,5 @@
 pub mod Paper
 pub mod Laws
 pub mod Answers
+mod Examples
 mod Unique
