@@ -10,28 +10,19 @@
  * Refusals. A refused call writes to no buffer. It gives its number, the canvas record as it was
  * given (zero where none was), and zero in all else.
  *
- * Buffers. A buffer is lent for one call, as an address and a number of bytes. What "writes" does not
- * name keeps its bytes, also past the result.
- *
- * THE CALLER'S PART. No call tests these, and nothing is promised where one is broken:
- *   - an address is NEVER NULL, also where the number of bytes is 0;
- *   - that many bytes may be read there, and written where the buffer is not const. (The entries of
- *     thermal_row_of_entries alone are counted as entries, and their address is one of a thermal_entry.)
- *   - a buffer that is written to overlaps no other of the call;
- *   - a flag (bool) is 0 or 1.
+ * Buffers. A buffer is lent for one call, as an address and a number of bytes. The address is not
+ * null, also where there are no bytes. A buffer that is written to overlaps no other of that call.
+ * What "writes" does not name keeps its bytes, also past the result.
  *
  * Dots. A pixel, or dot, is four bytes r, g, b, a. A picture is its dots row by row.
  *
  * The canvas. A `thermal_image` is a canvas but for its dots, which are the first 4*width*height
  * bytes of the buffer `buf`. Each operation takes the record by value and gives the next one; only
- * the caller keeps it. Two calls give none: thermal_get_height tells the height alone, and
- * thermal_draw_border draws on any picture and takes none. Between calls the caller may change
- * `auto_grow` and `paper_color`, and write dots to the buffer. Where a buffer is too short, the same
- * bytes may be lent again in a longer one.
+ * the caller keeps it. Between calls the caller may change `auto_grow` and `paper_color`, and write
+ * dots to the buffer. Where a buffer is too short, the same bytes may be lent again in a longer one.
  *
  * Jobs. A job draws a whole strip: `thermal_run` draws it on a canvas; `thermal_translate` and
  * `thermal_row` give any row of it alone, without a canvas, and `thermal_rows` some rows at once.
- * `thermal_row_of_entries` does without a plan: it is lent the entries as a list.
  */
 #ifndef THERMAL_H
 #define THERMAL_H
@@ -43,10 +34,6 @@
 #ifdef __cplusplus
 extern "C" {
 #endif
-
-/* The version of this header, and of the library that fits it (thermal_version). It is raised by each
- * change of a layout, a number or an answer. */
-#define THERMAL_VERSION 1
 
 /* The largest width and height. */
 #define THERMAL_LIMIT 16384
@@ -100,13 +87,20 @@ typedef struct thermal_answer {
     thermal_image image;
 } thermal_answer;
 
+/* The number, and the width and height of the dots that are written out. */
+typedef struct thermal_copied {
+    uint8_t number;
+    uint32_t width;
+    uint32_t height;
+} thermal_copied;
+
 /* The number, the next canvas, and the width and height of what is written out. */
-typedef struct thermal_output {
+typedef struct thermal_rgb {
     uint8_t number;
     thermal_image image;
     uint32_t width;
     uint32_t height;
-} thermal_output;
+} thermal_rgb;
 
 /* The number, and the width and height of the decoded image, stretched. */
 typedef struct thermal_decoded {
@@ -124,17 +118,13 @@ typedef struct thermal_dropped {
     uint8_t reason;
 } thermal_dropped;
 
-/* The dropped commands of a job, in order: the first `count`. All other places are zero. */
-typedef struct thermal_dropped_list {
-    size_t count;
-    thermal_dropped list[THERMAL_MOST_COMMANDS];
-} thermal_dropped_list;
-
-/* What a run answers: the number, the canvas, and the dropped commands. */
+/* What a run answers: the number, the canvas, and the dropped commands, which are the first
+ * `dropped_count`. All other places are zero. */
 typedef struct thermal_ran {
     uint8_t number;
     thermal_image image;
-    thermal_dropped_list dropped;
+    size_t dropped_count;
+    thermal_dropped dropped[THERMAL_MOST_COMMANDS];
 } thermal_ran;
 
 /* The kinds and the modes of an entry. */
@@ -161,14 +151,16 @@ typedef struct thermal_entry {
     size_t start;
 } thermal_entry;
 
-/* A row plan. Its entries are the first `count`; all other places are zero. */
+/* A row plan. Its entries are the first `count`, and its dropped commands the first `dropped_count`;
+ * all other places are zero. */
 typedef struct thermal_plan {
     uint32_t width;
     uint32_t height;
     thermal_rgba paper_color;
     size_t count;
     thermal_entry entries[THERMAL_MOST_COMMANDS];
-    thermal_dropped_list dropped;
+    size_t dropped_count;
+    thermal_dropped dropped[THERMAL_MOST_COMMANDS];
 } thermal_plan;
 
 /* The number, and the plan of a job. */
@@ -182,9 +174,6 @@ typedef struct thermal_row_answer {
     uint8_t number;
     uint32_t ink;
 } thermal_row_answer;
-
-/* Answers the library's THERMAL_VERSION. */
-uint32_t thermal_version(void);
 
 /*
  * Colours. These refuse nothing, and all but the last write nothing.
@@ -200,10 +189,7 @@ thermal_rgba thermal_blend_foreground(thermal_rgba dot, thermal_rgba color);
 thermal_rgba thermal_blend_foreground_with_alpha(thermal_rgba dot, thermal_rgba color,
                                                  uint8_t alpha);
 
-/* Answers the dot multiplied by the colour, so that white does not cover black. At the colour's alpha 0
- * the dot stays. Else each of r, g, b becomes the whole number nearest dot*color*alpha/65025: below 255
- * the alpha darkens the product, and does not bring back the old dot (white by white at alpha 1 is 1,
- * not 255). The dot's own alpha stays. */
+/* Answers the dot multiplied by the colour, so that white does not cover black. Alpha stays. */
 thermal_rgba thermal_multiply_foreground(thermal_rgba dot, thermal_rgba color);
 
 /* Answers the colour of a number: 0 the paper; 1 and 49, 2 and 50, 3 and 51 the inks; else ink 1. */
@@ -284,17 +270,17 @@ thermal_answer thermal_empty(thermal_image image, const uint8_t *buf, size_t len
 /* The same as thermal_empty, by the Rust's other name. */
 thermal_answer thermal_reset(thermal_image image, const uint8_t *buf, size_t length);
 
-/* Answers the canvas as given, and its width and height.
+/* Answers the canvas's width and height.
  * Writes its dots, 4*width*height bytes, from the start of `out` when done. `buf` is only read.
  * Numbers: 9, 1. */
-thermal_output thermal_copy(thermal_image image, const uint8_t *buf, size_t length, uint8_t *out,
+thermal_copied thermal_copy(thermal_image image, const uint8_t *buf, size_t length, uint8_t *out,
                             size_t out_length);
 
-/* Answers a canvas without width and height, and those that it had.
+/* Answers the canvas's width and height, and as the next canvas one without width and height.
  * Writes r, g, b of each dot, 3*width*height bytes, from the start of `out` when done. `buf` is
  * only read. Numbers: 9, 1. */
-thermal_output thermal_consume_rgb_u8(thermal_image image, const uint8_t *buf, size_t length,
-                                      uint8_t *out, size_t out_length);
+thermal_rgb thermal_consume_rgb_u8(thermal_image image, const uint8_t *buf, size_t length,
+                                   uint8_t *out, size_t out_length);
 
 /* Answers the canvas turned by 90 degrees: dot (x, y) goes to column height-1-y, row x. Without
  * rows it has no width either.
@@ -322,8 +308,7 @@ thermal_answer thermal_rotate_270(thermal_image image, const uint8_t *buf, size_
  */
 
 /* Answers the canvas with `pixels` put on it as an image w wide and h tall at (x, y). Fewer pixels
- * than w*h are accepted, and only these are drawn; where it is cropped, if what is left of the image
- * has none that is missing.
+ * than w*h are accepted where it is not cropped, and only these are drawn.
  * Writes when done: the new rows, then the dots of the image, blended or, with `multiply`,
  * multiplied. `pixels` is only read. Numbers: 9, 3, 2, 6, 5, 7, 8, 1. */
 thermal_answer thermal_put_pixels(thermal_image image, uint32_t x, uint32_t y, uint32_t w,
@@ -390,14 +375,6 @@ thermal_translated thermal_translate(const uint8_t *job, size_t job_length);
  * order, as on the canvas of thermal_run. `data` is only read. Numbers: 14, 15, 1. */
 thermal_row_answer thermal_row(thermal_plan plan, uint32_t row, const uint8_t *data,
                                size_t data_length, uint8_t *line, size_t length);
-
-/* The same as thermal_row for a plan of these sizes and this paper with the entries of a list.
- * `entries_length` is the NUMBER OF ENTRIES, not of bytes; more than THERMAL_MOST_COMMANDS are refused
- * with 14. `entries` and `data` are only read. */
-thermal_row_answer thermal_row_of_entries(uint32_t width, uint32_t height, thermal_rgba paper_color,
-                                          const thermal_entry *entries, size_t entries_length,
-                                          uint32_t row, const uint8_t *data, size_t data_length,
-                                          uint8_t *line, size_t length);
 
 /* Answers the number alone, for `count` rows of a plan from row `first` on: the plan is judged once
  * for all of them, and their ink is not counted.

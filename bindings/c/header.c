@@ -1,5 +1,5 @@
-/* Holds thermal.h to the library: one call of each function, so that each links and all values cross as
- * they are declared. It is compiled as C and as C++. */
+/* Holds thermal.h to the library: the sizes of its structs, and one call of each function, so that
+ * each links and all values cross as they are declared. It is compiled as C and as C++. */
 #include <stdio.h>
 #include <string.h>
 
@@ -27,26 +27,36 @@ static bool same(thermal_rgba color, uint8_t r, uint8_t g, uint8_t b, uint8_t a)
     return color.r == r && color.g == g && color.b == b && color.a == a;
 }
 
-/* Whether a record has these sizes, and the growth and the paper of a new one. */
-static bool sized(thermal_image image, uint32_t width, uint32_t height) {
-    return image.width == width && image.height == height && image.auto_grow &&
-           same(image.paper_color, 255, 255, 255, 255);
-}
-
+/* Whether a canvas of these sizes is answered, with the growth and the paper of a new one. */
 static bool canvas(thermal_answer answer, uint32_t width, uint32_t height) {
-    return answer.number == THERMAL_DONE && sized(answer.image, width, height);
+    return answer.number == THERMAL_DONE && answer.image.width == width &&
+           answer.image.height == height && answer.image.auto_grow &&
+           same(answer.image.paper_color, 255, 255, 255, 255);
 }
 
-/* Whether a canvas of these sizes is answered, and 3 by 2 dots are written out. */
-static bool output(thermal_output answer, uint32_t width, uint32_t height) {
-    return answer.number == THERMAL_DONE && sized(answer.image, width, height) &&
-           answer.width == 3 && answer.height == 2;
-}
-
-/* Whether a canvas of 3 by 2 dots is handed back as it was given, and no sizes. */
-static bool refused(thermal_output answer, uint8_t number) {
-    return answer.number == number && sized(answer.image, 3, 2) && answer.width == 0 &&
-           answer.height == 0;
+static void sizes(void) {
+    expect(sizeof(thermal_rgba) == 4, "thermal_rgba");
+    expect(sizeof(thermal_render_colors) == 16, "thermal_render_colors");
+    expect(sizeof(thermal_image) == 16, "thermal_image");
+    expect(sizeof(thermal_answer) == 20, "thermal_answer");
+    expect(sizeof(thermal_copied) == 12, "thermal_copied");
+    expect(sizeof(thermal_rgb) == 28, "thermal_rgb");
+    expect(sizeof(thermal_decoded) == 12, "thermal_decoded");
+    expect(sizeof(thermal_dropped) == 8, "thermal_dropped");
+    expect(sizeof(thermal_ran) == 544 && offsetof(thermal_ran, image) == 4 &&
+               offsetof(thermal_ran, dropped_count) == 24 && offsetof(thermal_ran, dropped) == 32,
+           "thermal_ran");
+    expect(sizeof(thermal_entry) == 40 && offsetof(thermal_entry, color) == 4 &&
+               offsetof(thermal_entry, x) == 8 && offsetof(thermal_entry, start) == 32,
+           "thermal_entry");
+    expect(sizeof(thermal_plan) == 3104 && offsetof(thermal_plan, count) == 16 &&
+               offsetof(thermal_plan, entries) == 24 &&
+               offsetof(thermal_plan, dropped_count) == 2584 &&
+               offsetof(thermal_plan, dropped) == 2592,
+           "thermal_plan");
+    expect(sizeof(thermal_translated) == 3112 && offsetof(thermal_translated, plan) == 8,
+           "thermal_translated");
+    expect(sizeof(thermal_row_answer) == 8, "thermal_row_answer");
 }
 
 static void colours(void) {
@@ -114,14 +124,13 @@ static void canvases(void) {
     expect(canvas(thermal_empty(image, buf, sizeof buf), 3, 0), "thermal_empty");
     expect(thermal_reset(image, buf, 23).number == THERMAL_BAD_CANVAS, "thermal_reset");
     memset(out, 0, sizeof out);
-    expect(refused(thermal_copy(image, buf, sizeof buf, out, 23), THERMAL_NO_ROOM) && out[0] == 0,
+    thermal_copied copied = thermal_copy(image, buf, sizeof buf, out, 24);
+    expect(copied.number == THERMAL_DONE && copied.width == 3 && copied.height == 2 &&
+               out[23] == 255 && out[24] == 0,
            "thermal_copy");
-    expect(output(thermal_copy(image, buf, sizeof buf, out, 24), 3, 2) && out[23] == 255 &&
-               out[24] == 0,
-           "thermal_copy");
-    expect(refused(thermal_consume_rgb_u8(image, buf, 23, out, 18), THERMAL_BAD_CANVAS),
-           "thermal_consume_rgb_u8");
-    expect(output(thermal_consume_rgb_u8(image, buf, sizeof buf, out, 18), 0, 0),
+    thermal_rgb rgb = thermal_consume_rgb_u8(image, buf, sizeof buf, out, 18);
+    expect(rgb.number == THERMAL_DONE && rgb.image.width == 0 && rgb.image.height == 0 &&
+               rgb.image.auto_grow && rgb.width == 3 && rgb.height == 2,
            "thermal_consume_rgb_u8");
     expect(canvas(thermal_rotate_90(image, buf, sizeof buf, out, 24), 2, 3), "thermal_rotate_90");
     expect(canvas(thermal_rotate_180(image, buf, sizeof buf, out, 24), 3, 2), "thermal_rotate_180");
@@ -161,9 +170,9 @@ static const uint8_t job[] = {
     6, 0, 0, 0, 4, 0, 1, 0, 0, 0,
     23, 0, 0, 0, 2, 0, 10, 0, 0, 0, 0, 0, 0, 0, 1, 0, 0, 0, 1, 0, 0, 0, 0, 0, 0, 255, 1};
 
-static bool dropped(thermal_dropped_list d) {
-    return d.count == 1 && d.list[0].place == 3 && d.list[0].reason == THERMAL_OFF_PAPER &&
-           d.list[1].place == 0 && d.list[1].reason == 0 && d.list[63].reason == 0;
+static bool dropped(size_t count, const thermal_dropped *list) {
+    return count == 1 && list[0].place == 3 && list[0].reason == THERMAL_OFF_PAPER &&
+           list[1].place == 0 && list[1].reason == 0 && list[63].reason == 0;
 }
 
 static bool entry(thermal_entry e, uint8_t kind, uint32_t x, uint32_t y, uint32_t w, uint32_t h) {
@@ -177,13 +186,13 @@ static void jobs(void) {
     memset(buf, 9, sizeof buf);
     memset(line, 9, sizeof line);
     thermal_ran ran = thermal_run(job, sizeof job, buf, 119);
-    expect(ran.number == THERMAL_NO_ROOM && ran.image.width == 0 && ran.dropped.count == 0 &&
+    expect(ran.number == THERMAL_NO_ROOM && ran.image.width == 0 && ran.dropped_count == 0 &&
                buf[0] == 9,
            "thermal_run");
     ran = thermal_run(job, sizeof job, buf, 120);
     expect(ran.number == THERMAL_DONE && ran.image.width == 10 && ran.image.height == 3 &&
                ran.image.auto_grow && same(ran.image.paper_color, 255, 255, 255, 255) &&
-               dropped(ran.dropped) && buf[0] == 255 && buf[40] == 0 &&
+               dropped(ran.dropped_count, ran.dropped) && buf[0] == 255 && buf[40] == 0 &&
                buf[48] == 255 && buf[116] == 0 && buf[120] == 9,
            "thermal_run");
     thermal_translated translated = thermal_translate(job, sizeof job);
@@ -196,7 +205,7 @@ static void jobs(void) {
                plan.entries[0].start == 43 &&
                entry(plan.entries[1], THERMAL_RECTANGLE, 8, 2, 2, 1) &&
                plan.entries[1].start == 0 && plan.entries[2].kind == 0 &&
-               dropped(plan.dropped),
+               dropped(plan.dropped_count, plan.dropped),
            "thermal_translate");
     expect(thermal_translate(job, sizeof job - 1).number == THERMAL_BAD_JOB, "thermal_translate");
     thermal_row_answer answer = thermal_row(plan, 2, job, sizeof job, line, 40);
@@ -205,19 +214,6 @@ static void jobs(void) {
            "thermal_row");
     answer = thermal_row(plan, 3, job, sizeof job, line, 40);
     expect(answer.number == THERMAL_NO_ROW && answer.ink == 0, "thermal_row");
-    thermal_entry list[THERMAL_MOST_COMMANDS + 1];
-    memset(list, 0, sizeof list);
-    memcpy(list, plan.entries, sizeof plan.entries);
-    uint8_t listed[41];
-    memset(listed, 9, sizeof listed);
-    answer = thermal_row_of_entries(10, 3, plan.paper_color, list, THERMAL_MOST_COMMANDS + 1, 2, job,
-                                    sizeof job, listed, 40);
-    expect(answer.number == THERMAL_BAD_PLAN && answer.ink == 0 && listed[0] == 9,
-           "thermal_row_of_entries");
-    answer = thermal_row_of_entries(10, 3, plan.paper_color, list, 2, 2, job, sizeof job, listed, 40);
-    expect(answer.number == THERMAL_DONE && answer.ink == 4 &&
-               memcmp(listed, line, sizeof listed) == 0,
-           "thermal_row_of_entries");
     buf[0] = 9;
     expect(thermal_rows(plan, 1, 2, job, sizeof job, buf, 81) == THERMAL_DONE &&
                buf[0] == 0 && memcmp(buf + 40, line, 40) == 0 && buf[80] == 255,
@@ -235,7 +231,7 @@ static void jobs(void) {
 }
 
 int main(void) {
-    expect(thermal_version() == THERMAL_VERSION, "thermal_version");
+    sizes();
     colours();
     decoders();
     canvases();

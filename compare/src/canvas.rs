@@ -15,7 +15,6 @@ use oracle::random::Random;
 use pair::Pair;
 
 pub use border::{read as read_border, Borders};
-pub use pair::refusal;
 pub use text::read as read_history;
 
 /// Histories, and how many calls they have in all in the quick setting.

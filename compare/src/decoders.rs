@@ -3,7 +3,6 @@
 mod cases;
 mod question;
 
-use crate::fault;
 use crate::library;
 use crate::report::{Place, Report, Verdict};
 use cases::Case;
@@ -92,8 +91,6 @@ fn judge(case: &Case, noise: &[u8]) -> Verdict {
     let mut memory = before.to_vec();
     let data = case.input.data.clone();
     let ours = library::decode(&case.input, &mut memory[start..start + case.lent]);
-    let ours = fault::on_its_way(ours);
-    fault::on_its_way_about(&mut memory, start, case.lent);
 
     let difference = match expected(due, case, &rust) {
         Ok((expected, dots)) => {

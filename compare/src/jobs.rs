@@ -137,7 +137,7 @@ impl Jobs {
         random: &mut Random,
     ) {
         let end = report.cases().saturating_add(most);
-        let listed = self.jobs.is_multiple_of(apart.min(report.most()));
+        let listed = self.jobs.is_multiple_of(apart);
         self.jobs += 1;
         let worked = Worked::of(bytes);
         let length = lent(worked.room(), random);

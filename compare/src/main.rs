@@ -4,9 +4,7 @@ mod bench;
 mod canvas;
 mod colour;
 mod decoders;
-mod differences;
 mod failures;
-mod fault;
 mod incident;
 mod jobs;
 mod library;
@@ -32,15 +30,12 @@ fn main() -> ExitCode {
             (Ok(cases), Ok(seed)) => long(build, cases, seed),
             _ => usage(),
         },
-        ["self-test", build] => self_test(build),
         ["jobs", build, folder] => archive(build, folder),
         ["replay", file] => replay(file),
         ["incident"] => {
             incident::show();
             ExitCode::SUCCESS
         }
-        ["differences"] => differences::show(),
-        ["differences", place] => differences::show_original(place),
         ["bench"] => {
             bench::measure();
             ExitCode::SUCCESS
@@ -50,15 +45,9 @@ fn main() -> ExitCode {
 }
 
 fn usage() -> ExitCode {
-    eprintln!(
-        "usage: compare run BUILD [CASES SEED] | self-test BUILD | jobs BUILD FOLDER | replay FILE | incident | \
-         differences [PLACE] | bench"
-    );
+    eprintln!("usage: compare run BUILD [CASES SEED] | jobs BUILD FOLDER | replay FILE | incident | bench");
     ExitCode::from(2)
 }
-
-/// The rows of the quick setting, of which docs/TRACE.md speaks (docs/check-trace).
-const ROWS: &str = include_str!("../rows.txt");
 
 /// The same cases in every run, of every operation.
 fn quick(build: &str) -> ExitCode {
@@ -67,55 +56,38 @@ fn quick(build: &str) -> ExitCode {
     decoders::compare(&mut report);
     canvas::compare(&mut report);
     jobs::compare(&mut report);
-    report.hold_to(ROWS);
     report.finish()
 }
 
 /// A job has a case for each of its rows; of a tall one only so many are compared.
 const MOST_OF_A_JOB: u64 = 200;
 
-fn long(build: &str, cases: u64, seed: u64) -> ExitCode {
-    let mut report = Report::new(build, Progress::new(build, Some(cases)));
-    at_random(&mut report, cases, seed);
-    report.finish()
-}
-
-/// Cases among which each operation has all its usual numbers.
-const SELF_TEST: u64 = 60_000;
-
-/// Some cases of every operation, in whose answers faults are planted.
-fn self_test(build: &str) -> ExitCode {
-    let mut report = Report::planting(build, Progress::new(build, None));
-    colour::compare(&mut report);
-    at_random(&mut report, SELF_TEST, 1);
-    report.finish()
-}
-
 /// Random cases of all operations but those on single colours, of which the quick setting has
 /// nearly all inputs: histories of a canvas, and between them images, borders and jobs.
-fn at_random(report: &mut Report, cases: u64, seed: u64) {
+fn long(build: &str, cases: u64, seed: u64) -> ExitCode {
+    let mut report = Report::new(build, Progress::new(build, Some(cases)));
     let mut random = Random::new(seed);
-    let random = &mut random;
-    let images = decoders::Decoders::new(report, random);
-    let mut canvases = canvas::Canvases::new(report);
-    let mut borders = canvas::Borders::new(report, random);
-    let mut strips = jobs::Jobs::new(report);
+    let images = decoders::Decoders::new(&mut report, &mut random);
+    let mut canvases = canvas::Canvases::new(&mut report);
+    let mut borders = canvas::Borders::new(&mut report, &mut random);
+    let mut strips = jobs::Jobs::new(&mut report);
     while report.cases() < cases {
         let before = report.cases();
-        canvases.any(cases - before, report, random);
+        canvases.any(cases - before, &mut report, &mut random);
         // Five kinds of images stand beside nineteen operations, and one of borders.
         let calls = report.cases() - before;
         for _ in 0..calls.div_ceil(4).min(cases - report.cases()) {
-            images.any(report, random);
+            images.any(&mut report, &mut random);
         }
         for _ in 0..calls.div_ceil(20).min(cases - report.cases()) {
-            borders.any(report, random);
+            borders.any(&mut report, &mut random);
         }
         let left = cases - report.cases();
         if left > 0 {
-            strips.any(left.min(MOST_OF_A_JOB), report, random);
+            strips.any(left.min(MOST_OF_A_JOB), &mut report, &mut random);
         }
     }
+    report.finish()
 }
 
 /// The files of a folder, each a job.

@@ -1,6 +1,5 @@
 //! Memory of which a part is lent.
 
-use crate::fault;
 use oracle::colour::hex;
 use oracle::random::Random;
 
@@ -61,7 +60,6 @@ impl Space {
 
     /// What is not as it has to be, of which `lent` bytes were lent. It is forgotten.
     pub fn difference(&mut self, name: &str, lent: usize) -> Option<String> {
-        fault::on_its_way_about(&mut self.memory, self.start, lent);
         if self.memory == self.expected {
             return None;
         }

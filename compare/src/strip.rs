@@ -4,10 +4,8 @@ use std::io::{ErrorKind, Write};
 use std::process::{Command, Stdio};
 
 /// Starts it from the folder compare/. It has 8 MB for all that it maps, the C library among it, so
-/// that it cannot hold a picture. An emulator maps more than that itself, so that there is no limit
-/// where one starts it.
-const START: &str = "\
-    [ -n \"$THERMAL_EMULATOR\" ] || ulimit -v 8192 && exec $THERMAL_EMULATOR ../crates/strip/out/strip";
+/// that it cannot hold a picture.
+const START: &str = "ulimit -v 8192 && exec ../crates/strip/out/strip";
 
 /// What it writes when this is its standard input, or why that is no listing.
 pub fn list(job: &[u8]) -> Result<Vec<u8>, String> {

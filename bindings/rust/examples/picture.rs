@@ -1,8 +1,8 @@
 //! Draws a strip and writes it as a picture, in the format PPM, that an image viewer opens: the strip
 //! of a job's file, or one that is drawn here call by call.
 //!
-//!     cargo run --example picture ../../target/strip.ppm ../../examples/mark.job
-//!     cargo run --example picture ../../target/strip.ppm
+//!     cargo run --example picture strip.ppm ../../examples/mark.job
+//!     cargo run --example picture strip.ppm
 
 use std::error::Error;
 use std::{env, fs};
@@ -48,9 +48,7 @@ fn main() -> Result<(), Box<dyn Error>> {
 fn of_job(bytes: &[u8]) -> Result<Canvas, thermal::Error> {
     let strip = job::run(bytes)?;
     for dropped in &strip.dropped {
-        if let Some(error) = dropped.error() {
-            println!("command {} is dropped: {error}", dropped.place);
-        }
+        println!("command {} is dropped: {}", dropped.place, dropped.error());
     }
     Ok(strip.canvas)
 }

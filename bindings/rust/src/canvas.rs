@@ -172,7 +172,7 @@ impl Canvas {
     pub fn copy(&self) -> Image {
         let mut pixels = vec![0; self.length()];
         let copied = self.image().copy(&self.buf, &mut pixels).done();
-        let (_, w, h) = copied.expect(SOUND);
+        let (w, h) = copied.expect(SOUND);
         Image { w, h, pixels }
     }
 

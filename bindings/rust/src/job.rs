@@ -30,7 +30,7 @@ use crate::lent;
 use crate::room::lend;
 use crate::{Canvas, Error};
 
-pub use crate::raw::{Dropped, DroppedList, Entry, Plan, MOST_COMMANDS};
+pub use crate::raw::{Dropped, Entry, Plan, MOST_COMMANDS};
 
 /// What a job draws.
 #[derive(Clone)]
@@ -49,7 +49,7 @@ pub struct Strip {
 /// // A flip of 11 columns does not fit paper that is 10 wide.
 /// let strip = thermal::job::run(&[&paper[..], &flip].concat())?;
 /// assert_eq!(strip.canvas.get_height(), 0);
-/// assert_eq!((strip.dropped[0].place, strip.dropped[0].error()), (0, Some(Error::OffPaper)));
+/// assert_eq!((strip.dropped[0].place, strip.dropped[0].error()), (0, Error::OffPaper));
 /// # Ok::<(), Error>(())
 /// ```
 pub fn run(job: &[u8]) -> Result<Strip, Error> {
@@ -114,7 +114,7 @@ impl Plan {
 
     /// The dropped commands, in order.
     pub fn dropped(&self) -> &[Dropped] {
-        self.dropped.commands()
+        &self.dropped[..self.dropped_count.min(MOST_COMMANDS)]
     }
 }
 
@@ -125,20 +125,9 @@ impl Entry {
     pub const MULTIPLY: u8 = 1;
 }
 
-impl DroppedList {
-    /// The dropped commands, in order.
-    pub fn commands(&self) -> &[Dropped] {
-        &self.list[..self.count.min(MOST_COMMANDS)]
-    }
-}
-
 impl Dropped {
-    /// Why it was dropped; nothing for an unused place, which is zero.
-    ///
-    /// ```
-    /// assert_eq!(thermal::job::Dropped::default().error(), None);
-    /// ```
-    pub fn error(self) -> Option<Error> {
-        Error::of(self.reason)
+    /// Why it was dropped.
+    pub fn error(self) -> Error {
+        Error::of(self.reason).expect("a dropped command has a refusal's number")
     }
 }

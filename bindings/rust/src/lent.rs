@@ -24,10 +24,12 @@ mod drawing;
 mod images;
 mod jobs;
 
-pub use crate::raw::{Answer, Decoded, Output, Plan, Ran, RowAnswer, ThermalImage, Translated};
+pub use crate::raw::{
+    Answer, Copied, Decoded, Plan, Ran, Rgb, RowAnswer, ThermalImage, Translated,
+};
 pub use drawing::{draw_border, Rectangle};
 pub use images::{
     image_from_column_bytes_single_color, image_from_raster_bytes_multi_color,
     image_from_raster_bytes_single_color, Sizes,
 };
-pub use jobs::{row, row_of_entries, rows, run, translate};
+pub use jobs::{row, rows, run, translate};

@@ -4,8 +4,8 @@
 //! No input stops the library or goes wrong inside it. Each has one answer, which is a picture by
 //! the rules or one of the refusals of document 01, an [`Error`].
 //!
-//! [`Canvas`] owns its dots. [`job`] draws whole strips, or single rows of them. [`lent`] is the same
-//! boundary with every buffer lent by the caller, and [`raw`] is the library's functions as they are.
+//! [`Canvas`] owns its dots. [`job`] draws whole strips, or single rows of them. [`lent`] is the same boundary with every buffer lent by the caller, and
+//! [`raw`] is the library's functions as they are.
 //!
 //! ```
 //! use thermal::{image_from_raster_bytes_single_color, Canvas, Error, Rgba, Sizes};
@@ -41,16 +41,3 @@ pub use image::{
     image_from_raster_bytes_single_color, Image,
 };
 pub use lent::{Rectangle, Sizes};
-
-/// The version of the boundary that this crate is written for. It is raised by each change of a
-/// layout, a number or an answer.
-pub const VERSION: u32 = 1;
-
-/// The version of the library that is linked.
-///
-/// ```
-/// assert_eq!(thermal::version(), thermal::VERSION);
-/// ```
-pub fn version() -> u32 {
-    unsafe { raw::thermal_version() }
-}

@@ -6,11 +6,9 @@ mod colours;
 mod draw;
 mod images;
 mod jobs;
-mod version;
 
 pub use canvas::*;
 pub use colours::*;
 pub use draw::*;
 pub use images::*;
 pub use jobs::*;
-pub use version::*;

@@ -1,14 +1,11 @@
-//! Holds the bindings to include/thermal.h, its numbers and names, and to include/layouts.txt, the
-//! layout of its structs.
+//! Holds the bindings to include/thermal.h: the numbers, the limit and the structs' sizes.
 
-use std::fmt::Write;
-use std::mem::{offset_of, size_of};
-use thermal::job::{Dropped, DroppedList, Entry, Plan, MOST_COMMANDS};
-use thermal::lent::{Answer, Decoded, Output, Ran, RowAnswer, ThermalImage, Translated};
+use std::mem::size_of;
+use thermal::job::{Dropped, Entry, Plan, MOST_COMMANDS};
+use thermal::lent::{Answer, Copied, Decoded, Ran, Rgb, RowAnswer, ThermalImage, Translated};
 use thermal::{Canvas, Error, RenderColors, Rgba};
 
 const HEADER: &str = include_str!("../../../include/thermal.h");
-const LAYOUTS: &str = include_str!("../../../include/layouts.txt");
 
 /// Each constant that the header defines, and its number.
 fn constants() -> Vec<(&'static str, u32)> {
@@ -23,7 +20,7 @@ fn constants() -> Vec<(&'static str, u32)> {
 
 #[test]
 fn numbers_and_names_are_the_headers() {
-    let mut expected = vec![("VERSION", thermal::VERSION), ("LIMIT", Canvas::LIMIT), ("DONE", 0)];
+    let mut expected = vec![("LIMIT", Canvas::LIMIT), ("DONE", 0)];
     expected.extend(Error::ALL.map(|e| (e.name(), u32::from(e.number()))));
     expected.push(("MOST_COMMANDS", MOST_COMMANDS as u32));
     let entries = [
@@ -37,58 +34,22 @@ fn numbers_and_names_are_the_headers() {
 }
 
 #[test]
-fn the_library_is_of_the_headers_version() {
-    assert_eq!(thermal::version(), thermal::VERSION);
-}
-
-/// The size of a field that a value of type `S` has.
-fn field<S, T>(_: fn(&S) -> &T) -> usize {
-    size_of::<T>()
-}
-
-/// The lines of a struct: each field's name, place and size, and the size of all.
-macro_rules! layout {
-    ($text:ident, $name:literal, $of:ty { $($field:ident),+ }) => {
-        $(
-            let (at, size) = (offset_of!($of, $field), field(|s: &$of| &s.$field));
-            writeln!($text, "{} {} {at} {size}", $name, stringify!($field)).unwrap();
-        )+
-        writeln!($text, "{} - 0 {}", $name, size_of::<$of>()).unwrap();
-    };
-}
-
-#[test]
-fn structs_are_laid_out_as_the_headers() {
-    let mut text = String::new();
-    layout!(text, "thermal_rgba", Rgba { r, g, b, a });
-    layout!(text, "thermal_render_colors", RenderColors { paper_color, color_1, color_2, color_3 });
-    layout!(text, "thermal_image", ThermalImage { width, height, auto_grow, paper_color });
-    layout!(text, "thermal_answer", Answer { number, image });
-    layout!(text, "thermal_output", Output { number, image, width, height });
-    layout!(text, "thermal_decoded", Decoded { number, w, h });
-    layout!(text, "thermal_dropped", Dropped { place, reason });
-    layout!(text, "thermal_dropped_list", DroppedList { count, list });
-    layout!(
-        text,
-        "thermal_entry",
-        Entry {
-            kind,
-            mode,
-            stretch_x,
-            stretch_y,
-            color,
-            x,
-            y,
-            w,
-            h,
-            original_width,
-            original_height,
-            start
-        }
-    );
-    layout!(text, "thermal_ran", Ran { number, image, dropped });
-    layout!(text, "thermal_plan", Plan { width, height, paper_color, count, entries, dropped });
-    layout!(text, "thermal_translated", Translated { number, plan });
-    layout!(text, "thermal_row_answer", RowAnswer { number, ink });
-    assert_eq!(text, LAYOUTS);
+fn structs_are_as_large_as_the_headers() {
+    let sizes = [
+        size_of::<Rgba>(),
+        size_of::<RenderColors>(),
+        size_of::<ThermalImage>(),
+        size_of::<Answer>(),
+        size_of::<Copied>(),
+        size_of::<Rgb>(),
+        size_of::<Decoded>(),
+        size_of::<Dropped>(),
+        size_of::<Ran>(),
+        size_of::<Entry>(),
+        size_of::<Plan>(),
+        size_of::<Translated>(),
+        size_of::<RowAnswer>(),
+    ];
+    let expected = [4, 16, 16, 20, 12, 28, 12, 8, 544, 40, 3104, 3112, 8];
+    assert_eq!(sizes, expected);
 }

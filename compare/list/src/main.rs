@@ -1,23 +1,15 @@
-//! Writes a fixed list of answers, or the dots that the original draws of a job, to standard output. It
-//! never sees this project's library.
+//! Writes a fixed list of answers to standard output. It never sees this project's library.
 
 mod canvas;
 mod colour;
 mod decoders;
-mod drawn;
 mod jobs;
 
 use canvas::List;
 use std::process::ExitCode;
 
 fn main() -> ExitCode {
-    let words: Vec<String> = std::env::args().skip(1).collect();
-    if let [word, file] = &words[..] {
-        if word == "draw" {
-            return drawn::write(file);
-        }
-    }
-    match words.first().map(String::as_str) {
+    match std::env::args().nth(1).as_deref() {
         Some("colour") => colour::write(),
         Some("decoders") => decoders::write(),
         Some("decoders_refusals") => decoders::refusals::write(),
@@ -30,7 +22,7 @@ fn main() -> ExitCode {
         _ => {
             eprintln!(
                 "usage: list colour | decoders | decoders_refusals | canvas | canvas_refusals | \
-                 drawing | drawing_refusals | jobs | jobs_refusals | draw JOB"
+                 drawing | drawing_refusals | jobs | jobs_refusals"
             );
             return ExitCode::from(2);
         }

@@ -3,7 +3,7 @@
 pub mod cases;
 
 use crate::colour::{number, rgba};
-use crate::stops::answer_or_stop;
+use crate::stops::answer;
 use thermal_parser::graphics::{Image, ImageFlow, Rectangle, RGBA};
 use thermal_renderer::image_renderer::thermal_image::ThermalImage;
 
@@ -192,19 +192,14 @@ impl Canvas {
 
     /// What the original answers, or nothing where it stops.
     pub fn apply(&mut self, operation: &Operation) -> Option<Answer> {
-        self.apply_or_stop(operation).ok()
-    }
-
-    /// What the original answers, or why it stops.
-    pub fn apply_or_stop(&mut self, operation: &Operation) -> Result<Answer, String> {
         let errors = self.0.errors.len();
-        let answer = answer_or_stop(|| self.call(operation))?;
+        let answer = answer(|| self.call(operation))?;
         // It keeps an error for each put that it refuses.
         if self.0.errors.len() > errors {
             self.0.errors.clear();
-            return Ok(Answer::Refused);
+            return Some(Answer::Refused);
         }
-        Ok(answer)
+        Some(answer)
     }
 
     fn call(&mut self, operation: &Operation) -> Answer {
@@ -269,22 +264,11 @@ impl Canvas {
 
 /// A picture after its border is drawn, or nothing where the original stops.
 pub fn draw_border(dots: &[u8], width: u32, height: u32, color: u32) -> Option<Vec<u8>> {
-    let (dots, drawn) = draw_border_or_stop(dots, width, height, color);
-    drawn.ok().map(|()| dots)
-}
-
-/// A picture as the original leaves it, and why it stops if it does.
-pub fn draw_border_or_stop(
-    dots: &[u8],
-    width: u32,
-    height: u32,
-    color: u32,
-) -> (Vec<u8>, Result<(), String>) {
-    let mut dots = pixels_of(dots);
-    let drawn = answer_or_stop(|| {
+    answer(|| {
+        let mut dots = pixels_of(dots);
         ThermalImage::draw_border(&mut dots, width, height, &rgba(color));
-    });
-    (bytes(&dots), drawn)
+        bytes(&dots)
+    })
 }
 
 fn pixel(dot: &[u8]) -> RGBA {

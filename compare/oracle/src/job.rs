@@ -140,7 +140,7 @@ impl Command {
 const MOST_DOTS: u128 = 1 << 17;
 
 /// The canvas that the original draws of a job, command by command. What is dropped with 3 or 5 it
-/// has to refuse itself, or a flip to leave the picture as it is.
+/// has to refuse itself.
 pub fn draw(job: &Job, dropped: &[Dropped]) -> Result<Canvas, String> {
     let mut canvas = Canvas::new(job.width);
     canvas.set_paper(job.paper_color);
@@ -162,15 +162,6 @@ pub fn draw(job: &Job, dropped: &[Dropped]) -> Result<Canvas, String> {
 fn refused(canvas: &mut Canvas, command: &Command, reason: u8) -> Result<(), String> {
     let area = match command {
         Command::Rectangle { area, .. } | Command::Image { area, .. } => area,
-        // It returns early, which only the picture tells.
-        Command::Flip(area) if reason == OFF_PAPER && area.x.checked_add(area.w).is_some() => {
-            return match canvas.apply(&Operation::FlipPixels(*area)) {
-                Some(canvas::Answer::Done) => Ok(()),
-                answer => Err(format!(
-                    "the Rust gives {answer:?} for a flip off the paper"
-                )),
-            };
-        }
         _ => return Ok(()),
     };
     let (x, y) = command.input().map_or((1, 1), |input| input.stretch);

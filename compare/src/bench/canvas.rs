@@ -195,7 +195,7 @@ fn same(
     let next = canvas.record();
     match (operation, rust) {
         (Operation::ConsumeRgb, Some(canvas::Answer::Bytes { w, h, bytes })) => {
-            ours == Some(Answer::Output(DONE, next, (w, h))) && out.starts_with(&bytes)
+            ours == Some(Answer::Rgb(DONE, next, (w, h))) && out.starts_with(&bytes)
         }
         (_, Some(canvas::Answer::Done)) => {
             let written = match operation {

@@ -1,6 +1,5 @@
 //! Borders of pictures, which are no part of a canvas.
 
-use crate::fault;
 use crate::library::canvas::draw_border;
 use crate::question::{below, blanker, plainer, vary, Question};
 use crate::report::{Place, Report, Verdict};
@@ -86,7 +85,7 @@ impl Border {
         } else {
             None
         };
-        let ours = fault::on_its_way(draw_border(w, h, color, space.lend(lent)));
+        let ours = draw_border(w, h, color, space.lend(lent));
         let difference = match rust {
             None if due == DONE => Some("the Rust stops, the scope asks for 0".into()),
             _ if ours != due => Some(format!("{due} expected, {ours} given")),

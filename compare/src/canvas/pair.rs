@@ -1,15 +1,12 @@
 //! The original's canvas and this library's, which go through a history side by side.
 
-use crate::fault;
 use crate::library::canvas::{call, Answer};
 use crate::report::Verdict;
 use crate::space::Space;
 use oracle::canvas::cases::{Case, Step};
-use oracle::canvas::{self, Area, Canvas, Operation, Record};
+use oracle::canvas::{self, Canvas, Operation, Record};
 use oracle::rules::canvas::{after, due, height, Lent};
-use oracle::rules::{
-    BAD_CANVAS, DONE, EMPTY_AREA, LARGEST, NO_ROOM, OFF_PAPER, SHORT, TOO_MANY, TOO_TALL,
-};
+use oracle::rules::{BAD_CANVAS, DONE, LARGEST, NO_ROOM, OFF_PAPER, SHORT, TOO_MANY, TOO_TALL};
 use std::borrow::Cow;
 
 /// What is refused is asked of the original only for canvases and areas of at most so many dots.
@@ -90,13 +87,12 @@ impl<'a> Pair<'a> {
         let due = due(asked.operation, &given, asked.lent);
         let rust = self.ask(due, &asked);
         let outside = !matches!(rust, Rust::Answers(_));
-        fault::call();
-        let ours = fault::on_its_way(call(
+        let ours = call(
             asked.operation,
             &given,
             self.canvas.lend(asked.lent.canvas),
             self.out.lend(asked.lent.out),
-        ));
+        );
         let difference = match self.expected(due, &asked, rust) {
             Ok(expected) if ours != expected => {
                 Some(format!("{expected:?} expected, {ours:?} given"))
@@ -159,43 +155,9 @@ impl<'a> Pair<'a> {
         }
     }
 
-    /// Asks another of the original's canvases where the scope departs from it inside the domain: a
-    /// flip of zero area adds the rows that lead to it, and no more; an upside-down image that is
-    /// refused is flipped nevertheless.
-    fn departs(&self, due: u8, asked: &Asked) -> Result<(), String> {
-        let (area, departure) = match (due, asked.operation) {
-            (EMPTY_AREA, Operation::FlipPixels(area)) => (area, grows(area, &self.record)),
-            (
-                OFF_PAPER | TOO_MANY,
-                Operation::PutRenderImg {
-                    area,
-                    upside_down: true,
-                    ..
-                },
-            ) => (area, Some(Operation::FlipPixels(*area))),
-            _ => return Ok(()),
-        };
-        let end = area.y.checked_add(area.h).map(u128::from);
-        let dots = end.map(|end| end * u128::from(self.record.width.max(1)));
-        if !is_small(asked.operation) || dots.is_none_or(|dots| dots > MOST_DOTS) {
-            return Ok(());
-        }
-        let dots = self.canvas.first(length(&self.record));
-        let [mut does, mut should] = [0; 2].map(|_| Canvas::of(&self.record, dots));
-        let same = does.apply(asked.operation).is_some()
-            && departure.is_none_or(|departure| should.apply(&departure).is_some())
-            && does.record() == should.record()
-            && does.dots() == should.dots();
-        match same {
-            true => Ok(()),
-            false => Err(format!("the Rust departs from {due} in another way")),
-        }
-    }
-
     /// What a call has to give. The original and the scope have to agree on it where the original
     /// is called. What the memory has to hold is set.
     fn expected(&mut self, due: u8, asked: &Asked, rust: Rust) -> Result<Answer, String> {
-        self.departs(due, asked)?;
         let refusal = Ok(asked.refusal(due));
         let is_flip = matches!(asked.operation, Operation::FlipPixels(_));
         match (due, rust) {
@@ -253,8 +215,11 @@ impl<'a> Pair<'a> {
         };
         match (asked.operation, answer) {
             (Operation::GetHeight, canvas::Answer::Height(h)) => Ok(Answer::Height(h)),
-            (Operation::Copy | Operation::ConsumeRgb, canvas::Answer::Bytes { w, h, bytes }) => {
-                expect(&bytes).map(|_| Answer::Output(DONE, next, (w, h)))
+            (Operation::Copy, canvas::Answer::Bytes { w, h, bytes }) => {
+                expect(&bytes).map(|_| Answer::Copied(DONE, (w, h)))
+            }
+            (Operation::ConsumeRgb, canvas::Answer::Bytes { w, h, bytes }) => {
+                expect(&bytes).map(|_| Answer::Rgb(DONE, next, (w, h)))
             }
             (_, canvas::Answer::Done) => {
                 expect(&self.rust.dots()).map(|_| Answer::Canvas(DONE, next))
@@ -271,17 +236,6 @@ struct Asked<'a> {
     lent: Lent,
 }
 
-/// What an operation gives that is refused with this number.
-pub fn refusal(operation: &Operation, given: Record, number: u8) -> Answer {
-    let lent = Lent { canvas: 0, out: 0 };
-    let asked = Asked {
-        operation,
-        given,
-        lent,
-    };
-    asked.refusal(number)
-}
-
 impl Asked<'_> {
     /// A refusal's answer: the record as given, and zero in all else.
     fn refusal(&self, number: u8) -> Answer {
@@ -293,7 +247,8 @@ impl Asked<'_> {
         };
         match self.operation {
             Operation::New(_) => Answer::Canvas(number, zero),
-            Operation::Copy | Operation::ConsumeRgb => Answer::Output(number, self.given, (0, 0)),
+            Operation::Copy => Answer::Copied(number, (0, 0)),
+            Operation::ConsumeRgb => Answer::Rgb(number, self.given, (0, 0)),
             _ => Answer::Canvas(number, self.given),
         }
     }
@@ -349,13 +304,6 @@ fn is_small(operation: &Operation) -> bool {
         }
         None => true,
     }
-}
-
-/// The growth to an area's end, if the area lies on the paper from side to side.
-fn grows(area: &Area, record: &Record) -> Option<Operation> {
-    let inside = u64::from(area.x) + u64::from(area.w) <= u64::from(record.width);
-    let end = area.y.saturating_add(area.h);
-    inside.then_some(Operation::ExpandToHeight(end))
 }
 
 /// The original flips an upside-down image also where it refuses to put it.

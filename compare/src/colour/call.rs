@@ -1,6 +1,5 @@
 //! A call with one dot or colour.
 
-use crate::fault;
 use crate::library;
 use crate::question::{below, plainer, vary, Question};
 use crate::report::{Report, Verdict};
@@ -82,7 +81,7 @@ impl Call {
 
     /// The original has an answer to every input: where it stops, that is a difference.
     pub fn difference_from(&self, rust: Option<u32>) -> Option<String> {
-        let ours = fault::on_its_way(self.ours());
+        let ours = self.ours();
         (rust != Some(ours)).then(|| answers(rust, ours))
     }
 }
@@ -94,7 +93,7 @@ pub fn answers(rust: Option<u32>, ours: u32) -> String {
 
 pub fn compare(report: &mut Report, name: &str, calls: impl Iterator<Item = Call>) {
     let row = report.row(name);
-    for call in calls.take(report.most()) {
+    for call in calls {
         report.count(row, &Verdict::done(call.difference()), || call);
     }
 }

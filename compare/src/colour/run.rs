@@ -1,7 +1,6 @@
 //! A colour on every dot of a buffer.
 
 use super::call::{answers, Call, Function};
-use crate::fault;
 use crate::library;
 use crate::question::{below, blanker, parts, plainer, vary, Question};
 use crate::report::{Place, Report, Verdict};
@@ -78,8 +77,6 @@ impl Run {
             Work::Blend => library::blend_dots(lent, self.color),
             Work::Multiply => library::multiply_dots(lent, self.color),
         }
-        let lent = self.dots.len() + self.lent.tail;
-        fault::on_its_way_about(&mut ours, self.lent.start, lent);
         let at = match rust.iter().position(Option::is_none) {
             Some(stop) => self.lent.start + 4 * stop,
             None => {

@@ -1,7 +1,6 @@
 //! Rows of plans that are not, or not quite, as the translation made them.
 
 use super::worked::row_verdict;
-use crate::fault;
 use crate::library::jobs;
 use crate::question::{below, blanker, plainer, vary, Question};
 use crate::report::Verdict;
@@ -69,13 +68,13 @@ impl PlanRow {
         space.shift(self.shift);
         let due = row_due(&self.plan, self.row, self.data.len(), self.lent);
         let plan = jobs::plan(&self.plan);
+        let ours = lent::row(&plan, self.row, &self.data, space.lend(self.lent));
         let dots = match due {
             DONE => row(&self.plan, &self.data, self.row).map(Some),
             _ => Ok(None),
         };
         let dots = dots.as_ref().map(|dots| dots.as_deref());
-        let told = dots.map_err(String::clone);
-        let verdict = row_verdict(&plan, self.row, &self.data, due, told, self.lent, space);
+        let verdict = row_verdict(due, ours, dots.map_err(String::clone), self.lent, space);
         if verdict.difference.is_some() {
             return verdict;
         }
@@ -96,7 +95,6 @@ impl PlanRow {
         let other: Vec<u8> = space.first(self.lent).iter().map(|byte| !byte).collect();
         space.write(&other);
         let ours = lent::rows(plan, self.row, 1, &self.data, space.lend(self.lent));
-        let ours = fault::on_its_way(ours);
         if let Some(dots) = dots {
             space.expect(dots);
         }

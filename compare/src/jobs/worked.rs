@@ -1,7 +1,6 @@
 //! A job worked out once: by the scope's rules, and drawn by the original.
 
 use super::is_outside;
-use crate::fault;
 use crate::library::jobs::{self, Ran};
 use crate::report::Verdict;
 use crate::space::Space;
@@ -13,7 +12,6 @@ use oracle::rules::job::{
     Outcome, Plan, BAD_JOB, MOST_COMMANDS, MOST_LISTED,
 };
 use oracle::rules::DONE;
-use thermal::job::Entry;
 use thermal::lent::{self, RowAnswer};
 
 pub struct Worked {
@@ -92,7 +90,7 @@ impl Worked {
     }
 
     pub fn run(&self, lent: usize, space: &mut Space) -> Verdict {
-        let ours = fault::on_its_way(jobs::run(&self.bytes, space.lend(lent)));
+        let ours = jobs::run(&self.bytes, space.lend(lent));
         let (expected, dots) = match &self.sound {
             Err(number) => (refused(*number), Ok(None)),
             Ok(sound) => match run_due(&sound.job, &sound.outcome, lent) {
@@ -130,7 +128,7 @@ impl Worked {
         let due = expected.err().unwrap_or(DONE);
         let zero = Plan::zero();
         let plan = jobs::plan(expected.unwrap_or(&zero));
-        let ours = fault::on_its_way(self.translated);
+        let ours = &self.translated;
         let difference = if ours.number != due {
             Some(format!("{due} expected, {} given", ours.number))
         } else {
@@ -145,6 +143,7 @@ impl Worked {
 
     /// A row of the library's own plan, against that row of the original's canvas.
     pub fn row(&self, row: u32, lent: usize, space: &mut Space) -> Verdict {
+        let ours = lent::row(&self.translated.plan, row, &self.bytes, space.lend(lent));
         let Some((sound, plan)) = self.sound.as_ref().ok().zip(self.plan()) else {
             return Verdict::done(Some("there is no plan".into()));
         };
@@ -157,15 +156,13 @@ impl Worked {
             Ok(_) => Ok(None),
             Err(why) => Err(why.clone()),
         };
-        let ours = &self.translated.plan;
-        row_verdict(ours, row, &self.bytes, due, dots, lent, space)
+        row_verdict(due, ours, dots, lent, space)
     }
 
     /// Some rows of the library's own plan at once, against those of the original's canvas.
     pub fn rows(&self, first: u32, count: u32, lent: usize, space: &mut Space) -> Verdict {
         let plan = &self.translated.plan;
         let ours = lent::rows(plan, first, count, &self.bytes, space.lend(lent));
-        let ours = fault::on_its_way(ours);
         let Some((sound, plan)) = self.sound.as_ref().ok().zip(self.plan()) else {
             return Verdict::done(Some("there is no plan".into()));
         };
@@ -203,7 +200,7 @@ impl Worked {
             Ok((_, Err(why))) => Err(why.clone()),
             Ok((plan, Ok(dots))) => Ok(listing(plan, dots)),
         };
-        let difference = match (expected, strip::list(&self.bytes).map(fault::on_its_way)) {
+        let difference = match (expected, strip::list(&self.bytes)) {
             (Err(why), _) | (_, Err(why)) => Some(why),
             (Ok(expected), Ok(ours)) => text_difference(&expected, &ours),
         };
@@ -248,45 +245,11 @@ fn refused(number: u8) -> Ran {
     }
 }
 
-/// The verdict on a row of a plan, and on the same row of a list of its entries over other bytes, of
-/// which these dots are expected, if it is done.
+/// The verdict on a row of which these dots are expected, if it is done.
 pub fn row_verdict(
-    plan: &lent::Plan,
-    row: u32,
-    data: &[u8],
-    due: u8,
-    dots: Result<Option<&[u8]>, String>,
-    lent: usize,
-    space: &mut Space,
-) -> Verdict {
-    let ours = lent::row(plan, row, data, space.lend(lent));
-    let verdict = answer_verdict(due, ours, &dots, lent, space);
-    if verdict.difference.is_some() {
-        return verdict;
-    }
-    let other: Vec<u8> = space.first(lent).iter().map(|byte| !byte).collect();
-    space.write(&other);
-    let (w, h, paper) = (plan.width, plan.height, plan.paper_color);
-    let ours = lent::row_of_entries(w, h, paper, &listed(plan), row, data, space.lend(lent));
-    let verdict = answer_verdict(due, ours, &dots, lent, space);
-    let difference = verdict.difference.map(|d| format!("of a lent list {d}"));
-    Verdict {
-        difference,
-        ..verdict
-    }
-}
-
-/// The entries of a plan as a list: with a count above 64 it is too long too.
-fn listed(plan: &lent::Plan) -> Vec<Entry> {
-    let mut list = plan.entries().to_vec();
-    list.resize(plan.count.min(1000), Entry::default());
-    list
-}
-
-fn answer_verdict(
     due: u8,
     ours: RowAnswer,
-    dots: &Result<Option<&[u8]>, String>,
+    dots: Result<Option<&[u8]>, String>,
     lent: usize,
     space: &mut Space,
 ) -> Verdict {
@@ -298,10 +261,9 @@ fn answer_verdict(
         expected.ink = ink(dots);
         space.expect(dots);
     }
-    let ours = fault::on_its_way(ours);
     let bytes = space.difference("the line", lent);
     let difference = match dots {
-        Err(why) => Some(why.clone()),
+        Err(why) => Some(why),
         Ok(_) if ours != expected => Some(format!("{expected:?} expected, {ours:?} given")),
         Ok(_) => bytes,
     };
@@ -347,7 +309,7 @@ fn plan_difference(expected: &lent::Plan, given: &lent::Plan) -> Option<String> 
     }
     let told = |what: &str, e: String, g: String| Some(format!("{what}: {e} expected, {g} given"));
     let head = |p: &lent::Plan| {
-        let (n, m) = (p.count, p.dropped.count);
+        let (n, m) = (p.count, p.dropped_count);
         let (w, h, paper) = (p.width, p.height, p.paper_color);
         format!("{w} x {h}, {paper:?}, {n} entries, {m} dropped")
     };

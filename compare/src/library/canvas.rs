@@ -2,7 +2,7 @@
 
 use super::{number, rgba};
 use oracle::canvas::{Area, Operation, Record, Turn};
-use thermal::lent::{self, Output, Rectangle, ThermalImage};
+use thermal::lent::{self, Copied, Rectangle, Rgb, ThermalImage};
 
 /// What a call gives: the number, the next canvas and the sizes of what is written out, as far as
 /// the operation answers them.
@@ -10,7 +10,8 @@ use thermal::lent::{self, Output, Rectangle, ThermalImage};
 pub enum Answer {
     Height(u32),
     Canvas(u8, Record),
-    Output(u8, Record, (u32, u32)),
+    Copied(u8, (u32, u32)),
+    Rgb(u8, Record, (u32, u32)),
 }
 
 impl From<lent::Answer> for Answer {
@@ -19,10 +20,16 @@ impl From<lent::Answer> for Answer {
     }
 }
 
-impl From<Output> for Answer {
-    fn from(answer: Output) -> Self {
+impl From<Copied> for Answer {
+    fn from(answer: Copied) -> Self {
+        Answer::Copied(answer.number, (answer.width, answer.height))
+    }
+}
+
+impl From<Rgb> for Answer {
+    fn from(answer: Rgb) -> Self {
         let sizes = (answer.width, answer.height);
-        Answer::Output(answer.number, record(answer.image), sizes)
+        Answer::Rgb(answer.number, record(answer.image), sizes)
     }
 }
 

@@ -18,14 +18,14 @@ pub struct Ran {
 
 pub fn run(job: &[u8], buf: &mut [u8]) -> Ran {
     let ran = lent::run(job, buf);
-    let dropped = ran.dropped.list.iter().map(|d| Dropped {
+    let dropped = ran.dropped.iter().map(|d| Dropped {
         place: d.place,
         reason: d.reason,
     });
     Ran {
         number: ran.number,
         record: record(ran.image),
-        dropped_count: ran.dropped.count,
+        dropped_count: ran.dropped_count,
         dropped: dropped.collect(),
     }
 }
@@ -38,15 +38,13 @@ pub fn plan(plan: &Plan) -> lent::Plan {
         paper_color: rgba(plan.paper_color),
         count: plan.count as usize,
         entries: [job::Entry::default(); job::MOST_COMMANDS],
-        dropped: job::DroppedList {
-            count: plan.dropped_count as usize,
-            list: [job::Dropped::default(); job::MOST_COMMANDS],
-        },
+        dropped_count: plan.dropped_count as usize,
+        dropped: [job::Dropped::default(); job::MOST_COMMANDS],
     };
     for (to, from) in given.entries.iter_mut().zip(&plan.entries) {
         *to = entry(from);
     }
-    for (to, from) in given.dropped.list.iter_mut().zip(&plan.dropped) {
+    for (to, from) in given.dropped.iter_mut().zip(&plan.dropped) {
         (to.place, to.reason) = (from.place, from.reason);
     }
     given

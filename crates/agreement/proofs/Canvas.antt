@@ -21,18 +21,19 @@ use Rattle.images.specs.Formats.{alpha_of, bytes_of}
 use Rattle.images.specs.Stretching.{factor, pixel_of, is_large}
 use Rattle.graphics.specs.Decoding.{lacks_room, refusal, answer, output, decoded, decoded_on}
 use Rattle.graphics.proofs.Codes.{single-done}
-use Rattle.images.proofs.Places.{in-data, data_byte}
+use Rattle.images.proofs.Places.{place, in-data}
 use Rattle.areas.specs.Areas.{area_on}
 use Rattle.areas.proofs.Laws.{at-column, area-by}
 use Rattle.job.specs.declared.commands.Command.{Command}
 use Rattle.job.specs.declared.commands.Command.TheVariants.{Rectangle, Image, Margin, Flip}
-use Rattle.job.specs.Commands.{multiplies, Inside}
+use Rattle.job.specs.Commands.{multiplies}
+use Rattle.job.specs.Dropping as dropping
 use Rattle.job.proofs.Reasons.{put-kept}
 use Rattle.entries.specs.declared.Entry.{Entry}
 use Rattle.entries.specs.Entries.{rectangle_entry, image_entry, image_pixel, entry_pixel}
 use Rattle.entries.proofs.Drawing.{entry-rows}
 use Rattle.thermal_image.specs.declared.ThermalImage.{ThermalImage}
-use Rattle.refusals.specs.Refusals.{canvas_refusal, tall_refusal, room_refusal, side_refusal, empty_refusal, margin_refusal, first_of}
+use Rattle.refusals.specs.Refusals.{first, canvas_refusal, tall_refusal, room_refusal, side_refusal, empty_refusal, margin_refusal}
 use Rattle.thermal_image.specs.Canvas.{canvas, sized, finished, papered}
 use Rattle.thermal_image.proofs.Laws.{margin-record, margin-lowered}
 use Rattle.refusals.proofs.Codes.{first_some, first-none, first_then, first_done}
@@ -41,9 +42,8 @@ use Rattle.drawing.specs.Drawing.{pixels_drawn, put_on}
 use Rattle.places.proofs.Codes.{tall-grown, flip-tall}
 use Rattle.places.proofs.Equal.{pixel-in, rect-grown}
 use Rattle.drawing.proofs.Laws.{placed-grown, rect-record, rect-placed, put_record, put-placed, flip-record, flip-placed}
-use Rattle.agreement.specs.Canvas.{data_of, image_outcome, outcome, pixel_bytes, OnCanvas, CommandsOnCanvas}
-use Rattle.job.specs.Dropping as dropping
 use Rattle.runs.specs.Steps as steps
+use Rattle.agreement.specs.Canvas.{data_of, image_outcome, outcome, Inside, pixel_bytes, OnCanvas, CommandsOnCanvas}
 
 factor-some : (n : ℕ) → 0 < factor n
 unfolding factor
@@ -63,9 +63,9 @@ module _ (s : List ℕ) (W H : ℕ) (paper : RGBA) (l : List ℕ) (some : 1 ≤ 
 
   -- ---- a put of all its pixels
 
-  put-number : (x y w h : ℕ) → rect_refusal t x y w h (length l) ≡ first_of (dropping.put_reason W H x y w h) (room_refusal W (max H (y + h)) (length l))
+  put-number : (x y w h : ℕ) → rect_refusal t x y w h (length l) ≡ first (dropping.put_reason W H x y w h) (room_refusal W (max H (y + h)) (length l))
   unfolding dropping.put_reason result_refusal
-  put-number x y w h = rect-grown t refl x y w h (length l) sound ∙ sym (first_then _ _ _ ∙ ap (first_of (side_refusal w h)) (first_then _ _ _))
+  put-number x y w h = rect-grown t refl x y w h (length l) sound ∙ sym (first_then _ _ _ ∙ ap (first (side_refusal w h)) (first_then _ _ _))
 
   put-across : (x y w h : ℕ) → rect_refusal t x y w h (length l) ≡ done → x < W
   put-across x y w h e = (put-kept W H x y w h (first_done _ _ (sym (put-number x y w h) ∙ e)).0).on
@@ -98,9 +98,9 @@ module _ (s : List ℕ) (W H : ℕ) (paper : RGBA) (l : List ℕ) (some : 1 ≤ 
 
   -- ---- a margin
 
-  margin-number : (m : ℕ) → margin_refusal W H m (length l) ≡ first_of (tall_refusal (H + m)) (room_refusal W (H + m) (length l))
+  margin-number : (m : ℕ) → margin_refusal W H m (length l) ≡ first (tall_refusal (H + m)) (room_refusal W (H + m) (length l))
   unfolding margin_refusal
-  margin-number m = ap (λ (k : ℕ). first_of k (room_refusal W (H + m) (length l))) (sym (first-none _ _ sound))
+  margin-number m = ap (λ (k : ℕ). first k (room_refusal W (H + m) (length l))) (sym (first-none _ _ sound))
 
   margin-same : (out : List ℕ) (m : ℕ) → Same out (Margin m)
   unfolding outcome dropping.reason_of dropping.height_after steps.obeyed_on
@@ -108,9 +108,9 @@ module _ (s : List ℕ) (W H : ℕ) (paper : RGBA) (l : List ℕ) (some : 1 ≤ 
 
   -- ---- a flip
 
-  flip-number : (x y w h : ℕ) → flip_refusal t x y w h (length l) ≡ first_of (dropping.flip_reason W H x y w h) (room_refusal W (max H (y + h)) (length l))
+  flip-number : (x y w h : ℕ) → flip_refusal t x y w h (length l) ≡ first (dropping.flip_reason W H x y w h) (room_refusal W (max H (y + h)) (length l))
   unfolding flip_refusal flip_tall dropping.flip_reason result_refusal
-  flip-number x y w h = sym (first-none _ _ sound) ∙ sym (first_then _ _ _ ∙ ap (first_of (empty_refusal w h)) (first_then _ _ _))
+  flip-number x y w h = sym (first-none _ _ sound) ∙ sym (first_then _ _ _ ∙ ap (first (empty_refusal w h)) (first_then _ _ _))
 
   flip-same : (out : List ℕ) (x y w h : ℕ) → Same out (Flip x y w h)
   unfolding outcome dropping.reason_of dropping.height_after steps.obeyed_on
@@ -155,12 +155,12 @@ module _ (s : List ℕ) (W H : ℕ) (paper : RGBA) (l : List ℕ) (some : 1 ≤ 
         by false = refl
 
     -- the job's order is the decoding's, and then the put's
-    image-order : dropping.image_reason W H x y w h (factor sx) (factor sy) size ≡ first_of decoding (dropping.put_reason W H x y wide tall)
-    unfolding refusal lacks_room dropping.image_reason first_of
+    image-order : dropping.image_reason W H x y w h (factor sx) (factor sy) size ≡ first decoding (dropping.put_reason W H x y wide tall)
+    unfolding refusal lacks_room dropping.image_reason first
     image-order =
         rw (bytes-length, long, le-ltb (4 * (wide * tall)) (4 * (wide * tall)) (omega arith)) (by (is_large w h (factor sx) (factor sy)) (not (eqb size (bytes_of Bits w h))) _)
       where
-        by : (a b : Bool) (p : ℕ) → (if a then too_large else if b then wrong_length else p) ≡ first_of (if a then too_large else if b then wrong_length else done) p
+        by : (a b : Bool) (p : ℕ) → (if a then too_large else if b then wrong_length else p) ≡ first (if a then too_large else if b then wrong_length else done) p
         by true b p = refl
         by false true p = refl
         by false false p = refl
@@ -168,7 +168,7 @@ module _ (s : List ℕ) (W H : ℕ) (paper : RGBA) (l : List ℕ) (some : 1 ≤ 
     image-reason : decoding ≡ done → dropping.image_reason W H x y w h (factor sx) (factor sy) size ≡ dropping.put_reason W H x y wide tall
     image-reason e = image-order ∙ sym (first-none _ _ e)
 
-    pixels-number : put_refusal t x y wide tall (length pixels) (length l) ≡ first_of (dropping.put_reason W H x y wide tall) (room_refusal W (max H (y + tall)) (length l))
+    pixels-number : put_refusal t x y wide tall (length pixels) (length l) ≡ first (dropping.put_reason W H x y wide tall) (room_refusal W (max H (y + tall)) (length l))
     unfolding rect_refusal
     pixels-number = rw pixels-length (put-number x y wide tall)
 
@@ -184,7 +184,7 @@ module _ (s : List ℕ) (W H : ℕ) (paper : RGBA) (l : List ℕ) (some : 1 ≤ 
         let d = single-done Bits w h (factor sx) (factor sy) (length bytes) (length out) e in
         let col : i / factor sx < w = (div-lt_iff_lt-mul (factor-some sx)).1 u in
         let row : j / factor sy < h = (div-lt_iff_lt-mul (factor-some sy)).1 v in
-        let near : data_byte Bits w h (i / factor sx) (j / factor sy) < size = in-data Bits w h (i / factor sx) (j / factor sy) col row (omega (arith, d.bytes, bytes-length)) in
+        let near : place Bits w h (i / factor sx) (j / factor sy) < size = in-data Bits w h (i / factor sx) (j / factor sy) col row (omega (arith, d.bytes, bytes-length)) in
         rw (eq-eqb decoding done e)
         (change-picked _ _ out (j * wide + i) (within-yes 0 (wide * tall) (j * wide + i) (omega arith) k) (omega (arith, long))
         ∙ rw (p.0, p.1) (ap (λ (b : ℕ). with_alpha c (b / 2 ^ (7 - i / factor sx % 8) % 2 * 255)) (get_or-take size (drop start s) _ 0 near)))
@@ -206,7 +206,7 @@ module _ (s : List ℕ) (W H : ℕ) (paper : RGBA) (l : List ℕ) (some : 1 ≤ 
 
     -- done; and refused, whatever pixels there are
     image-put : decoding ≡ done → OnCanvas s W H paper l (Image x y w h sx sy c mode start size) (image_outcome done mode x y wide tall pixels t l)
-    unfolding image_outcome dropping.reason_of dropping.height_after first_of
+    unfolding image_outcome dropping.reason_of dropping.height_after first
     image-put e =
         record {
           number = rw (image-reason e) pixels-number;

@@ -18,7 +18,7 @@ use Rattle.agreement.proofs.Rows.{translated-is, ran-is, same_row, same_rows}
 
 -- ---- what the contracts say of the calls
 
-pub run_is : (s l : List ℕ) (r : Ran) (m : List ℕ) → Run s l r m → (r ≡ ran s (length l)) × (m ≡ run_on s l)
+run_is : (s l : List ℕ) (r : Ran) (m : List ℕ) → Run s l r m → (r ≡ ran s (length l)) × (m ≡ run_on s l)
 run_is s l r m c = rw (← c.given.0, ← c.given.1, ← c.left) c.kept
 
 translate-is : (s : List ℕ) (t : Translated) → Translate s t → t ≡ translated s
@@ -43,6 +43,7 @@ module _ (s l : List ℕ) (g : Plannable s) (room : 4 * (paper_width s * job_hei
         width = refl;
         height = refl;
         paper = refl;
+        count = refl;
         dropped = refl;
         alone = λ j k m a h r c. let e = row_is (plan_of s) j s k a m c in rw (e.0, e.1) (same_row s g l k j h room r);
         at_once = λ first n k m a h r c. let e = rows_are (plan_of s) first n s k a m c in rw (e.0, e.1) (same_rows s g l k first n h room r);

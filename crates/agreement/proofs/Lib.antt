@@ -1,9 +1,8 @@
 mod Margins
 mod Pictures
+mod Rules
 mod Rows
 pub mod Demand
 pub mod Canvas
 pub mod Operations
-pub mod Calls
-pub mod Strip
 mod Examples

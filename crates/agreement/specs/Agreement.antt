@@ -77,6 +77,7 @@ pub record Same (s : List ℕ) (r : Ran) (canvas : List ℕ) (t : Translated) : 
   pub width : r.image.width ≡ t.plan.width
   pub height : r.image.height ≡ t.plan.height
   pub paper : r.image.paper_color ≡ t.plan.paper_color
+  pub count : r.dropped_count ≡ t.plan.dropped_count
   pub dropped : r.dropped ≡ t.plan.dropped
   -- each row alone, so that rows may be asked for in any order
   pub alone : (j : ℕ) (before line : List ℕ) (a : RowAnswer) → j < t.plan.height → 4 * t.plan.width ≤ length before

@@ -8,11 +8,12 @@ use Rattle.graphics.specs.Decoding.{decoded, decoded_on}
 use Rattle.job.specs.declared.commands.Command.{Command}
 use Rattle.job.specs.declared.commands.Command.TheVariants.{Rectangle, Image, Margin, Flip}
 use Rattle.job.specs.declared.dropping.Dropped.{Dropped}
-use Rattle.job.specs.Commands.{paper_width, paper_color, multiplies, commands, Inside}
+use Rattle.job.specs.Records.{Bytes}
+use Rattle.job.specs.Commands.{paper_width, paper_color, multiplies, commands}
 use Rattle.job.specs.Dropping.{reason_of, height_after, job_dropped}
 use Rattle.thermal_image.specs.declared.ThermalImage.{ThermalImage}
 use Rattle.thermal_image.specs.declared.Answer.{Answer}
-use Rattle.refusals.specs.Refusals.{canvas_refusal, room_refusal, margin_refusal, first_of}
+use Rattle.refusals.specs.Refusals.{first, canvas_refusal, room_refusal, margin_refusal}
 use Rattle.thermal_image.specs.Canvas.{canvas, finished, margined, margined_on}
 use Rattle.places.specs.Places.{put_refusal, rect_refusal, flip_refusal}
 use Rattle.drawing.specs.Drawing.{put, put_on, rect, rect_on, flip, flip_on}
@@ -32,7 +33,7 @@ data_of s start size = take size (drop start s)
 -- pixels put where decoding, which answers `number` and the sizes w and h, is done
 unfoldable pub image_outcome : ℕ → ℕ → ℕ → ℕ → ℕ → ℕ → List ℕ → ThermalImage → List ℕ → Outcome
 image_outcome number mode x y w h pixels t l = record {
-  number = first_of number (put_refusal t x y w h (length pixels) (length l));
+  number = first number (put_refusal t x y w h (length pixels) (length l));
   answer = put t x y w h (length pixels) (length l);
   bytes = put_on (multiplies mode) t x y w h pixels l;
 }
@@ -58,6 +59,13 @@ outcome s out t l (Flip x y w h) = record {
   bytes = flip_on t x y w h l;
 }
 
+-- an image's data lie in the job's bytes, as every sound job's do
+unfoldable pub Inside : List ℕ → Command → Type 0
+Inside s (Rectangle x y w h c mode) = Unit {0}
+Inside s (Image x y w h sx sy c mode start size) = start + size ≤ length s
+Inside s (Margin m) = Unit {0}
+Inside s (Flip x y w h) = Unit {0}
+
 -- the bytes of an image's pixels
 unfoldable pub pixel_bytes : Command → ℕ
 pixel_bytes (Rectangle x y w h c mode) = 0
@@ -70,11 +78,11 @@ pixel_bytes (Flip x y w h) = 0
 -- what an operation gives, beside the command c on paper W wide, H rows high so far, in the buffer l
 pub record OnCanvas (s : List ℕ) (W H : ℕ) (paper : RGBA) (l : List ℕ) (c : Command) (o : Outcome) : Type 0 where
   -- what the command is dropped for; else only a buffer too short for the new height is refused, which a run decides at its start
-  pub number : o.number ≡ first_of (reason_of W H c) (room_refusal W (height_after H c) (length l))
+  pub number : o.number ≡ first (reason_of W H c) (room_refusal W (height_after H c) (length l))
   pub answer : o.number ≡ done → o.answer ≡ finished (canvas W (height_after H c) true paper)
   pub bytes : o.number ≡ done → o.bytes ≡ obeyed_on s W paper H c l
 
--- for every command whose data lie in the job's bytes, as every sound job's do, and every sound canvas with growth on
+-- for every command and every sound canvas with growth on
 abbrev pub CommandsOnCanvas : Type 0
 CommandsOnCanvas =
     (s out l : List ℕ) (W H : ℕ) (paper : RGBA) (c : Command) → 1 ≤ W → canvas_refusal W H (length l) ≡ done → Inside s c → length out ≡ pixel_bytes c
@@ -102,6 +110,6 @@ performed s outs k t l (c ∷ cs) =
 -- for every job that is run: the operations of its commands, from a canvas without rows on, come to what the run is stated to answer and to leave
 abbrev pub RunOnCanvas : Type 0
 RunOnCanvas =
-    (s l : List ℕ) (outs : Command → List ℕ) → run_refusal s (length l) ≡ done → ((c : Command) → length (outs c) ≡ pixel_bytes c)
+    (s l : List ℕ) (outs : Command → List ℕ) → Bytes s → run_refusal s (length l) ≡ done → ((c : Command) → length (outs c) ≡ pixel_bytes c)
     → performed s outs 0 (canvas (paper_width s) 0 true (paper_color s)) l (commands s)
     ≡ record { image = run_canvas s; bytes = run_on s l; dropped = job_dropped s }

@@ -1,6 +1,5 @@
-// What is proved of functions of other crates together. There is no code here.
-//   specs/Agreement.antt   running a job and planning it agree: `run`, `translate`, `row` and `rows`
-//   specs/Canvas.antt      the rules by which a run drops and obeys commands are the canvas operations'
-//   specs/Calls.antt       a run is these operations called one by one
-//   specs/Strip.antt       what `strip` writes is the listing
+// Running a job and planning it agree. specs/Agreement.antt says what is claimed of `run`,
+// `translate`, `row` and `rows`, functions of three other crates, and proofs/Demand.antt proves it. The
+// rules by which a run drops and obeys commands are those of the canvas operations:
+// specs/Canvas.antt, proofs/Canvas.antt and proofs/Operations.antt. There is no code here.
 #![tactic(auto)]

@@ -9,15 +9,16 @@ use native.Mathlib.Omega.{arith}
 use lib.Bits.{bit_and}
 use lib.ListN.{length, get_or, set}
 use lib.Dec.{eqb}
+use Rattle.std.specs.Prelude.{if◌then◌else◌}
 use Rattle.colour.specs.Colour.{with_alpha}
 use Rattle.colour.specs.declared.RGBA.{RGBA}
 use Rattle.dots.specs.Dots.{tab, dot_at, chan, change, within, drawn}
 use Rattle.dots.specs.Tables.{lanes, factors, terms, Whole}
 use Rattle.dots.proofs.Laws.{get_or-tab, byte_of, change-idle, drawn-none}
 use Rattle.dots.proofs.Bytes.{Over, over_none, over-step, over-change}
-use Rattle.dots.proofs.Mixed.{Bytes, lane-at, lanes_fit, mixed-dot}
+use Rattle.dots.proofs.Mixed.{mixed, Bytes, lane-at, lanes_fit, mixed-dot}
 use Rattle.bits.specs.Bits.{alpha_drawn}
-use Rattle.bits.specs.Steps.{byte_on, bit_on, stamped}
+use Rattle.bits.specs.Steps.{byte_on, bit_on}
 use Rattle.bits.proofs.Unpacking.{Told, off, lit, told, is_one}
 
 -- a bit is drawn at full alpha
@@ -43,6 +44,9 @@ bit-mixed {bit} t c at n l h z ep em = let o : bit ≡ 1 = is_one h z in em ∙ 
 -- whether byte j's mask meets the byte
 abbrev pub on : ℕ → List ℕ → ℕ → Bool
 on byte masks j = not (eqb (bit_and byte (get_or masks j 0)) 0)
+
+abbrev pub stamped : Bool → ℕ → ℕ → ℕ → ℕ
+stamped t m k s = if t then mixed m k s else s
 
 module _ (byte : ℕ) (masks m k : List ℕ) where
   -- j bytes from byte `from` on are stamped in b

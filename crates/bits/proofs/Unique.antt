@@ -1,11 +1,7 @@
 -- Each public function's contract leaves one answer or one content of the buffer. Assumes nothing.
-use Rattle.numbers.proofs.OneAnswer.{OneAnswer, OneContent, both}
-use Rattle.bits.proofs.bit.row_bytes.Reads as row-bytes
+use Rattle.numbers.proofs.OneAnswer.{OneContent, both}
 use Rattle.bits.proofs.unpack.unpack_row.Reads as unpack-row
 use Rattle.bits.proofs.stamp.stamp_row.Reads as stamp-row
-
-row-bytes-one : OneAnswer row-bytes.Post
-row-bytes-one k a x y e f p q = both p q
 
 unpack-row-one : OneContent unpack-row.Post (λ k e. e.0.now)
 unpack-row-one k a x y e f p q = both p q

@@ -6,6 +6,5 @@ mod bit;
 mod stamp;
 mod unpack;
 
-pub use bit::row_bytes;
 pub use stamp::stamp_row;
 pub use unpack::unpack_row;

@@ -6,7 +6,7 @@ ghost use Rattle.colour.specs.Colour.{with_alpha};
 ghost use Rattle.dots.specs.Dots.{tab};
 ghost use Rattle.dots.specs.Tables.{lanes, factors, terms};
 ghost use Rattle.bits.specs.Bits.{Shown, bits_on, alpha_drawn};
-ghost use Rattle.bits.specs.Steps.{byte_on, bit_on, stamped};
+ghost use Rattle.bits.specs.Steps.{byte_on, bit_on};
 
 use super::bit::bit_at;
 use colour::RGBA;
@@ -15,7 +15,7 @@ use numbers::smaller;
 
 fn stamp_byte(on: bool, s: u8, m: u16, k: u16) -> u8
     requires { 255 * m + k ≤ 65153 }
-    ensures { result ≡ stamped on m k s }
+    ensures { result ≡ (if on then (s * m + k + (s * m + k) / 256) / 256 else s) }
 {
     let t = mix_byte(s, m, k);
     if on {

@@ -1,11 +1,11 @@
--- `round_away` of the product is within a half, and a little, of s * c * a / 65025, and the product rounds to a byte. Assumes nothing.
-use Rattle.std.proofs.Common.{◌≡◌, ℕ, ◌+◌, ◌*◌, ◌^◌, ◌<◌, ◌≤◌, true, false, T, sym, ap, ◌∙◌, subst, true≢false, le_trans, le_of_eq, mul-le-mul_right, mul_assoc, mul_comm, add-mul, mul-le-mul, lt_of_mul-lt-mul_right, mul-lt-mul_of_pos_right, mul-pos, mul_right_comm, div-mul-le_self, le_of_mul-le-mul_right, mul_left_comm, arith, lit<, lt→ltb, pow_pos}
+-- `round_away` of the product is within 65041 / 130050 of s * c * a / 65025, and at a = 255 it is the whole number nearest s * c / 255. Assumes nothing.
+use Rattle.std.proofs.Common.{◌≡◌, ℕ, ◌+◌, ◌*◌, ◌/◌, ◌^◌, ◌<◌, ◌≤◌, true, false, T, sym, refl, ap, ◌∙◌, subst, true≢false, le_trans, le_of_eq, mul-le-mul_right, mul_assoc, mul_comm, add-mul, mul-le-mul, lt_of_mul-lt-mul_right, mul-lt-mul_of_pos_right, mul-pos, mul_right_comm, div-mul-le_self, le_of_mul-le-mul_right, mul_left_comm, arith, lit<, lit≤, lt→ltb, pow_pos}
 use native.Mathlib.Nat.{lt-div-mul-add}
 use lib.Ieee.{Float, nan, inf, fin, up, down}
 use lib.Ieee.Fits.{down_pos}
 use lib.Ieee.Exact.{HasValue}
 use lib.Ieee.Nearest.{div_same}
-use Rattle.colour.specs.Channel.{nearest, in_byte, round_away, product}
+use Rattle.colour.specs.Channel.{nearest, in_byte, round_away, product, multiply_byte, Multiplied}
 use Rattle.colour.proofs.Product.{near-product}
 
 -- ---- the rounded value by any fraction that x equals
@@ -70,6 +70,21 @@ close-product s c a S C A =
     subst (λ (r : ℕ). Close r (s * c * a)) (sym (round-away-value (product s c a) x.at (2 ^ 149) (pow_pos 149) x.value))
     (close x.at (2 ^ 149) (s * c * a) (pow_pos 149) x.most x.least)
 
+bounds : (r n : ℕ) → n ≤ 16581375 → Close r n → (130050 * r ≤ 2 * n + 65041) × (2 * n ≤ 130050 * r + 65041)
+bounds r n N h = (omega (arith, h.0), omega (arith, h.1))
+
+pub accurate : (s c a : ℕ) → s ≤ 255 → c ≤ 255 → a ≤ 255
+    → (130050 * round_away (product s c a) ≤ 2 * (s * c * a) + 65041) × (2 * (s * c * a) ≤ 130050 * round_away (product s c a) + 65041)
+accurate s c a S C A = bounds (round_away (product s c a)) (s * c * a) (scale s c a S C A) (close-product s c a S C A)
+
+pick : (r n : ℕ) → 130050 * r ≤ 2 * (n * 255) + 65041 → 2 * (n * 255) ≤ 130050 * r + 65041 → r ≡ (2 * n + 255) / 510
+pick r n h k = omega arith
+
+pub at-full-alpha : (s c : ℕ) → s ≤ 255 → c ≤ 255 → round_away (product s c 255) ≡ nearest (s * c) 255
+at-full-alpha s c S C =
+    let h = accurate s c 255 S C (lit≤ tt) in
+    pick (round_away (product s c 255)) (s * c) h.0 h.1
+
 -- the product is in the range that `round_to_byte` asks
 pub in-byte : (x : Float) (g L : ℕ) → 0 < L → HasValue x false g L → 2 * g < 511 * L → T (in_byte x)
 unfolding in_byte
@@ -89,3 +104,14 @@ pub product-in-byte : (s c a : ℕ) → s ≤ 255 → c ≤ 255 → a ≤ 255 �
 product-in-byte s c a S C A =
     let x = near-product s c a S C A in
     in-byte (product s c a) x.at (2 ^ 149) (pow_pos 149) x.value (below x.at (2 ^ 149) (s * c * a) (pow_pos 149) (scale s c a S C A) x.most)
+
+pub multiplied : (s c a r : ℕ) → s ≤ 255 → c ≤ 255 → a ≤ 255 → r ≡ multiply_byte s c a → Multiplied s c a r
+unfolding multiply_byte
+multiplied s c a r S C A e =
+    subst (λ (q : ℕ). Multiplied s c a q) (sym e)
+    record {
+      value = refl;
+      most = (accurate s c a S C A).0;
+      least = (accurate s c a S C A).1;
+      full = λ h. ap (λ (b : ℕ). round_away (product s c b)) h ∙ at-full-alpha s c S C;
+    }

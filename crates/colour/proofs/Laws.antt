@@ -1,8 +1,9 @@
 -- Laws of the definitions of colour, for this crate and for callers. Assumes nothing.
-use Rattle.std.proofs.Common.{◌≡◌, ℕ, ◌+◌, ◌-◌, ◌*◌, ◌/◌, ◌≤◌, ◌≢◌, ap, ◌∙◌, arith, eq-eqb, ne_eqb}
+use Rattle.std.proofs.Common.{◌≡◌, ℕ, ◌+◌, ◌*◌, ◌/◌, ◌≤◌, arith, eq-eqb, ne_eqb}
 use Rattle.colour.specs.declared.RGBA.{RGBA}
-use Rattle.colour.specs.Channel.{nearest, blend_byte, multiply_byte, Multiplied}
+use Rattle.colour.specs.Channel.{nearest, blend_byte, multiply_byte}
 use Rattle.colour.specs.Colour.{rgba, blended_at, multiplied}
+use Rattle.colour.proofs.Accurate.{at-full-alpha}
 use Rattle.colour.proofs.Halves.{nearest-product}
 
 -- two colours are equal by their parts
@@ -11,16 +12,9 @@ rgba-eq p q r s = λ i. record { r = p i; g = q i; b = r i; a = s i }
 
 -- ---- blending at the alphas that need no arithmetic, and at the others
 
--- no tie can arise, 255 being odd: no whole number r has (c·a + s·(255 − a)) / 255 half-way to the next
-pub blend-no-tie : (s c a r : ℕ) → 2 * (c * a + s * (255 - a)) ≢ 255 * (2 * r + 1)
-blend-no-tie s c a r = odd (c * a + s * (255 - a))
-  where
-    odd : (n : ℕ) → 2 * n ≢ 255 * (2 * r + 1)
-    odd n e = omega arith
-
--- the whole number nearest (t − 128) / 255, by two divisions by 256
-pub by-256 : (t : ℕ) → t ≤ 65153 → (t + t / 256) / 256 ≡ nearest (t - 128) 255
-by-256 t h = omega arith
+-- the whole number nearest n / 255, by two divisions by 256
+pub by-256 : (n : ℕ) → n ≤ 65025 → (n + 128 + (n + 128) / 256) / 256 ≡ nearest n 255
+by-256 n h = omega arith
 
 pub blend-byte-none : (s c : ℕ) → blend_byte s c 0 ≡ s
 unfolding blend_byte
@@ -54,20 +48,10 @@ pub multiplied-some : (c s : RGBA) {r g b : ℕ} → (c.a ≡ 0 → ⊥)
 unfolding multiplied
 multiplied-some c s n er eg eb = rw (ne_eqb c.a 0 n, er, eg, eb)
 
+pub multiply-byte-full : (s c : ℕ) → s ≤ 255 → c ≤ 255 → multiply_byte s c 255 ≡ nearest (s * c) 255
+unfolding multiply_byte
+multiply-byte-full s c hs hc = at-full-alpha s c hs hc
+
 -- at every alpha it is the whole number nearest s·c·a / 65025
 pub multiply-byte-nearest : (s c a : ℕ) → s ≤ 255 → c ≤ 255 → a ≤ 255 → multiply_byte s c a ≡ nearest (s * c * a) 65025
 multiply-byte-nearest s c a hs hc ha = nearest-product s c a hs hc ha
-
-pub multiply-byte-full : (s c : ℕ) → s ≤ 255 → c ≤ 255 → multiply_byte s c 255 ≡ nearest (s * c) 255
-multiply-byte-full s c hs hc = omega (arith, multiply-byte-nearest s c 255 hs hc (omega arith))
-
--- the nearest whole number lies within 65024 of 130050 parts, and so within the bound
-pub multiplied-channel : (s c a : ℕ) {r : ℕ} → s ≤ 255 → c ≤ 255 → a ≤ 255 → r ≡ multiply_byte s c a → Multiplied s c a r
-multiplied-channel s c a {r} hs hc ha e =
-    let near : r ≡ nearest (s * c * a) 65025 = e ∙ multiply-byte-nearest s c a hs hc ha in
-    record {
-      value = e;
-      most = omega (arith, near);
-      least = omega (arith, near);
-      full = λ f. omega (arith, e ∙ ap (multiply_byte s c) f, multiply-byte-full s c hs hc);
-    }

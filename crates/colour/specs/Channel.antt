@@ -31,15 +31,11 @@ round_away (fin s m e) = nearest (m * up e) (down e)
 unfoldable pub multiply_byte : ℕ → ℕ → ℕ → ℕ
 multiply_byte s c a = round_away (product s c a)
 
--- how far a multiplied channel may lie from s·c·a / 65025, in 130050ths
-abbrev pub multiply_bound : ℕ
-multiply_bound = 65041
-
 -- what a multiplied channel r is: the value, and what follows from it for callers, |130050·r − 2·s·c·a| ≤ 65041, and for a = 255 the whole number nearest s·c/255
 pub record Multiplied (s c a r : ℕ) : Type 0 where
   pub value : r ≡ multiply_byte s c a
-  pub most : 130050 * r ≤ 2 * (s * c * a) + multiply_bound
-  pub least : 2 * (s * c * a) ≤ 130050 * r + multiply_bound
+  pub most : 130050 * r ≤ 2 * (s * c * a) + 65041
+  pub least : 2 * (s * c * a) ≤ 130050 * r + 65041
   pub full : a ≡ 255 → r ≡ nearest (s * c) 255
 
 -- not negative and below 255.5, so that it rounds to a byte

@@ -15,7 +15,7 @@ use Rattle.colour.specs.declared.RGBA.{RGBA}
 use Rattle.colour.specs.Colour.{rgba, blended, multiplied}
 use Rattle.colour.proofs.Laws.{rgba-eq, blended-none, blended-full, multiplied-none}
 use Rattle.dots.specs.Dots.{dot_at, set_dot, tab, chan, paint, change, within, drawn}
-use Rattle.dots.specs.Tables.{Whole, needs_tables, opaque_blend}
+use Rattle.dots.specs.Tables.{Whole, needs_tables, covers}
 
 -- a number is below another, or not
 by-test : (a b : ℕ) (t : Bool) → ltb a b ≡ t → (a < b) ⊎ (b ≤ a)
@@ -387,7 +387,7 @@ no-tables true c h e = record { some = h; full = λ f. go (eqb c.a 255) refl e }
     go false q z = absurd (true≢false z)
 no-tables false c h e = record { some = h; full = λ f. absurd (true≢false (sym f)) }
 
-pub covers-full : (t : Bool) (c s : RGBA) → opaque_blend t c ≡ true → c ≡ drawn t c s
-unfolding opaque_blend
+pub covers-full : (t : Bool) (c s : RGBA) → covers t c ≡ true → c ≡ drawn t c s
+unfolding covers
 covers-full true c s e = absurd (true≢false (sym e))
 covers-full false c s e = drawn-full c s refl (eqb-true _ _ e)

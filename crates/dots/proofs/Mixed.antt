@@ -5,19 +5,23 @@ use mathlib.Core.Logic.{inr}
 use mathlib.Core.List.{List}
 use Prim.Native.Nat.{ℕ, ◌+◌, ◌-◌, ◌*◌, ◌/◌, ◌%◌, ◌≤◌, ◌<◌}
 use native.Mathlib.Omega.{arith}
-use native.Mathlib.Nat.{mul-le-mul, mul-le-mul_right, add-zero, add-sub_cancel}
+use native.Mathlib.Nat.{mul-le-mul, mul-le-mul_right, add-zero}
 use lib.Dec.{eqb}
 use borrow.Author.Tests.{eqb-true, eqb-false, eq-eqb, ne_eqb}
 use lib.ListN.{length, get_or, set, length-set}
 use Rattle.colour.specs.declared.RGBA.{RGBA}
 use Rattle.std.specs.Prelude.{if◌then◌else◌}
-use Rattle.colour.specs.Channel.{blend_byte, multiply_byte, nearest}
+use Rattle.colour.specs.Channel.{blend_byte, multiply_byte}
 use Rattle.colour.specs.Colour.{rgba, blended, multiplied}
-use Rattle.colour.proofs.Laws.{rgba-eq, blend-byte-full, blended-full, blended-some, multiplied-some, multiply-byte-full}
+use Rattle.colour.proofs.Laws.{rgba-eq, by-256, blend-byte-full, blended-full, blended-some, multiplied-some, multiply-byte-full}
 use Rattle.dots.specs.Dots.{dot_at, chan, change, within, drawn}
-use Rattle.dots.specs.Tables.{lanes, factors, terms, Whole, mixed}
+use Rattle.dots.specs.Tables.{lanes, factors, terms, Whole}
 use Rattle.dots.proofs.Laws.{get_or-tab, each-byte, byte_of}
 use Rattle.dots.proofs.Bytes.{Over, over_none, over-step, over-change, fill_step}
+
+-- what the loop works out of a factor, a term and an old byte
+abbrev pub mixed : ℕ → ℕ → ℕ → ℕ
+mixed m k s = (s * m + k + (s * m + k) / 256) / 256
 
 pub record Bytes (c : RGBA) : Type 0 where
   pub r : c.r ≤ 255
@@ -86,14 +90,16 @@ lanes_fit false c p =
     last true = omega (arith, mul-le-mul p.a p.a)
     last false = omega arith
 
-mixed-blend : (c a s : ℕ) → mixed (255 - a) (c * a + 128) s ≡ blend_byte s c a
+mixed-blend : (c a s : ℕ) → c ≤ 255 → a ≤ 255 → s ≤ 255 → mixed (255 - a) (c * a + 128) s ≡ blend_byte s c a
 unfolding blend_byte
-mixed-blend c a s =
-    let e : s * (255 - a) + (c * a + 128) - 128 ≡ c * a + s * (255 - a) = omega arith in
-    ap (λ (n : ℕ). nearest n 255) e
+mixed-blend c a s hc ha hs =
+    let low : c * a ≤ 255 * a = mul-le-mul_right a hc in
+    let high : s * (255 - a) ≤ 255 * (255 - a) = mul-le-mul_right (255 - a) hs in
+    let e : s * (255 - a) + (c * a + 128) ≡ c * a + s * (255 - a) + 128 = omega arith in
+    ap (λ (t : ℕ). (t + t / 256) / 256) e ∙ by-256 (c * a + s * (255 - a)) (omega arith)
 
 mixed-multiply : (c s : ℕ) → c ≤ 255 → s ≤ 255 → mixed c 128 s ≡ multiply_byte s c 255
-mixed-multiply c s hc hs = ap (λ (n : ℕ). nearest n 255) (add-sub_cancel (s * c) 128) ∙ sym (multiply-byte-full s c hs hc)
+mixed-multiply c s hc hs = by-256 (s * c) (mul-le-mul hs hc) ∙ sym (multiply-byte-full s c hs hc)
 
 -- a dot multiplied at full alpha, channel by channel
 mixed-whole : (c s : RGBA) → Bytes c → Bytes s → c.a ≡ 255 → rgba (mixed c.r 128 s.r) (mixed c.g 128 s.g) (mixed c.b 128 s.b) s.a ≡ multiplied c s
@@ -103,8 +109,8 @@ mixed-whole c s p q f =
     channel : (x y : ℕ) → x ≤ 255 → y ≤ 255 → mixed x 128 y ≡ multiply_byte y x c.a
     channel x y hx hy = mixed-multiply x y hx hy ∙ ap (multiply_byte y x) (sym f)
 
-mixed-kept : (s : ℕ) → mixed 255 128 s ≡ s
-mixed-kept s = omega arith
+mixed-kept : (s : ℕ) → s ≤ 255 → mixed 255 128 s ≡ s
+mixed-kept s h = omega arith
 
 -- the dot that the loop makes of s
 abbrev mixed_dot : Bool → RGBA → RGBA → RGBA
@@ -116,24 +122,24 @@ mixed_dot t c s =
 -- it is s with c drawn on it
 pub mixed-drawn : (t : Bool) (c s : RGBA) → Bytes c → Bytes s → Whole t c → mixed_dot t c s ≡ drawn t c s
 unfolding factors terms drawn
-mixed-drawn true c s p q w = rw (mixed-kept s.a) (mixed-whole c s p q (w.full refl))
+mixed-drawn true c s p q w = rw (mixed-kept s.a q.a) (mixed-whole c s p q (w.full refl))
 mixed-drawn false c s p q w = go (eqb c.a 255) refl
   where
     new : ℕ → ℕ → ℕ
     new x y = mixed (255 - c.a) (x * c.a + 128) y
 
-    channel : (x y : ℕ) → new x y ≡ blend_byte y x c.a
-    channel x y = mixed-blend x c.a y
+    channel : (x y : ℕ) → x ≤ 255 → y ≤ 255 → new x y ≡ blend_byte y x c.a
+    channel x y hx hy = mixed-blend x c.a y hx p.a hy
 
     go : (e : Bool) → eqb c.a 255 ≡ e
         → rgba (new c.r s.r) (new c.g s.g) (new c.b s.b) (mixed (if e then 0 else 255) (if e then c.a * c.a + 128 else 128) s.a) ≡ blended c s
     go true e =
         let f : c.a ≡ 255 = eqb-true _ _ e in
-        let full : (x y : ℕ) → new x y ≡ x = λ x y. channel x y ∙ ap (blend_byte y x) f ∙ blend-byte-full y x in
-        rgba-eq (full _ _) (full _ _) (full _ _) (rw f (omega arith)) ∙ blended-full c s f
+        let full : (x y : ℕ) → x ≤ 255 → y ≤ 255 → new x y ≡ x = λ x y hx hy. channel x y hx hy ∙ ap (blend_byte y x) f ∙ blend-byte-full y x in
+        rgba-eq (full _ _ p.r q.r) (full _ _ p.g q.g) (full _ _ p.b q.b) (rw f (omega arith)) ∙ blended-full c s f
     go false e =
-        rw (mixed-kept s.a)
-        (blended-some c s (λ z. omega (arith, w.some)) (eqb-false _ _ e) (channel _ _) (channel _ _) (channel _ _))
+        rw (mixed-kept s.a q.a)
+        (blended-some c s (λ z. omega (arith, w.some)) (eqb-false _ _ e) (channel _ _ p.r q.r) (channel _ _ p.g q.g) (channel _ _ p.b q.b))
 
 -- byte by byte
 pub mixed-dot : (t : Bool) (c s : RGBA) → Bytes c → Bytes s → Whole t c

@@ -1,7 +1,7 @@
 -- The arrays that are made once for a colour and then drawn with over many dots.
 use Rattle.std.specs.Prelude.{List, ◌≡◌, Bool, true, not, ◌&&◌, ℕ, ◌+◌, ◌-◌, ◌*◌, ◌%◌, ◌<◌, eqb, if◌then◌else◌}
 use Rattle.colour.specs.declared.RGBA.{RGBA}
-use Rattle.colour.specs.Channel.{multiply_byte, nearest}
+use Rattle.colour.specs.Channel.{multiply_byte}
 use Rattle.colour.specs.Colour.{rgba}
 use Rattle.dots.specs.Dots.{tab, chan}
 
@@ -18,15 +18,11 @@ pub record Whole (multiply : Bool) (c : RGBA) : Type 0 where
 unfoldable pub needs_tables : Bool → RGBA → Bool
 needs_tables multiply c = multiply && not (eqb c.a 255)
 
--- an opaque colour that is blended, which covers what was there
-unfoldable pub opaque_blend : Bool → RGBA → Bool
-opaque_blend multiply c = not multiply && eqb c.a 255
+-- an opaque colour that is blended covers what was there
+unfoldable pub covers : Bool → RGBA → Bool
+covers multiply c = not multiply && eqb c.a 255
 
--- a byte s mixed by a factor m and a term k: the whole number nearest (s·m + k − 128) / 255
-abbrev pub mixed : ℕ → ℕ → ℕ → ℕ
-mixed m k s = nearest (s * m + k - 128) 255
-
--- the factors and terms by which the bytes of a dot are mixed under a colour. The alpha byte becomes 255 under an opaque blend, and else stays
+-- a byte s under a colour drawn by factors and terms becomes the whole number nearest (s·factor + term − 128) / 255. The alpha byte becomes 255 under an opaque blend, and else stays
 unfoldable pub factors : Bool → RGBA → RGBA
 factors multiply c = if multiply then rgba c.r c.g c.b 255 else rgba (255 - c.a) (255 - c.a) (255 - c.a) (if eqb c.a 255 then 0 else 255)
 

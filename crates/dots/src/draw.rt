@@ -1,7 +1,7 @@
 // A run of dots under a colour, blending or multiplying.
 ghost use Rattle.std.specs.Prelude.{◌≡◌, true, ◌+◌, ◌*◌, ◌≤◌, ◌<◌, length};
 ghost use Rattle.dots.specs.Dots.{change, within, drawn};
-ghost use Rattle.dots.specs.Tables.{needs_tables, opaque_blend};
+ghost use Rattle.dots.specs.Tables.{needs_tables, covers};
 
 use super::dot::{get_dot, set_dot};
 use super::fill::fill_run;
@@ -53,7 +53,7 @@ pub fn needs_tables(c: RGBA, multiply: bool) -> bool
 
 // An opaque colour that is blended covers what was there.
 pub fn covers(c: RGBA, multiply: bool) -> bool
-    ensures { result ≡ opaque_blend multiply c }
+    ensures { result ≡ covers multiply c }
 {
     if multiply {
         return false;

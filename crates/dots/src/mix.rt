@@ -1,13 +1,13 @@
 // A colour drawn over a run of dots byte by byte, against arrays of 64 numbers that are made once,
 // since bytes in a row become vectors of 16-bit numbers.
-ghost use Rattle.std.specs.Prelude.{◌≡◌, ◌+◌, ◌*◌, ◌≤◌, length};
+ghost use Rattle.std.specs.Prelude.{◌≡◌, ◌+◌, ◌*◌, ◌/◌, ◌≤◌, length};
 ghost use Rattle.colour.specs.Colour.{rgba};
 ghost use Rattle.dots.specs.Dots.{change, within, drawn};
-ghost use Rattle.dots.specs.Tables.{lanes, mixed, factors, terms, Whole};
+ghost use Rattle.dots.specs.Tables.{lanes, factors, terms, Whole};
 
 use colour::RGBA;
 
-fn lanes_of(x: u16, y: u16, z: u16, w: u16) -> [u16; 64]
+fn lanes(x: u16, y: u16, z: u16, w: u16) -> [u16; 64]
     ensures { result ≡ lanes (rgba x y z w) }
 {
     let mut p = [0u16; 64];
@@ -26,13 +26,13 @@ pub fn mix_factors(c: RGBA, multiply: bool) -> [u16; 64]
     ensures { result ≡ lanes (factors multiply c) }
 {
     if multiply {
-        return lanes_of(c.r as u16, c.g as u16, c.b as u16, 255);
+        return lanes(c.r as u16, c.g as u16, c.b as u16, 255);
     }
     if c.a == RGBA::OPAQUE {
-        return lanes_of(0, 0, 0, 0);
+        return lanes(0, 0, 0, 0);
     }
     let f = 255 - (c.a as u16);
-    lanes_of(f, f, f, 255)
+    lanes(f, f, f, 255)
 }
 
 fn term(c: u8, a: u8) -> u16
@@ -45,21 +45,21 @@ pub fn mix_terms(c: RGBA, multiply: bool) -> [u16; 64]
     ensures { result ≡ lanes (terms multiply c) }
 {
     if multiply {
-        return lanes_of(128, 128, 128, 128);
+        return lanes(128, 128, 128, 128);
     }
     let r = term(c.r, c.a);
     let g = term(c.g, c.a);
     let b = term(c.b, c.a);
     if c.a == RGBA::OPAQUE {
-        return lanes_of(r, g, b, term(c.a, c.a));
+        return lanes(r, g, b, term(c.a, c.a));
     }
-    lanes_of(r, g, b, 128)
+    lanes(r, g, b, 128)
 }
 
-// Without a division.
+// The whole number nearest (s * m + k - 128) / 255, without a division.
 pub fn mix_byte(s: u8, m: u16, k: u16) -> u8
     requires { 255 * m + k ≤ 65153 }
-    ensures { result ≡ mixed m k s }
+    ensures { result ≡ (s * m + k + (s * m + k) / 256) / 256 }
 {
     let t = (s as u16) * m + k;
     ((t + t / 256) / 256) as u8

@@ -24,7 +24,7 @@ fn multiply_byte(s: u8, c: u8, a: u8) -> u8
     scale_byte(s, (c as u32) * (a as u32))
 }
 
-pub(crate) fn multiply_dot(s: RGBA, c: RGBA) -> RGBA
+pub fn multiply_dot(s: RGBA, c: RGBA) -> RGBA
     requires { 0 < c.a }
     ensures { result ≡ multiplied c s }
 {

@@ -1,5 +1,4 @@
 pub mod Laws
 pub mod Equal
 mod Growing
-mod Examples
 mod Unique

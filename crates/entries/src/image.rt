@@ -8,7 +8,7 @@ ghost use Rattle.areas.specs.Areas.{Fits, area_on};
 ghost use Rattle.entries.specs.Entries.{good_image, image_pixel};
 
 use super::Entry;
-use bits::{row_bytes, stamp_row};
+use bits::stamp_row;
 use colour::RGBA;
 use dots::{mix_factors, mix_terms};
 
@@ -27,7 +27,7 @@ fn image_row(
     requires m_value { (m.now ≡ lanes (factors multiply (with_alpha e.color 255))) × (k.now ≡ lanes (terms multiply (with_alpha e.color 255))) }
     ensures { buf.new ≡ change (within at (at + e.w)) (λ i d. drawn multiply (image_pixel «data».now e (i - at) j) d) buf.old }
 {
-    let size = row_bytes(e.original_width as usize);
+    let size = (e.original_width as usize + 7) / 8;
     let from = e.start + j / e.stretch_y as usize * size;
     let fx = e.stretch_x as usize;
     stamp_row(

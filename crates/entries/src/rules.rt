@@ -4,7 +4,6 @@ ghost use Rattle.std.specs.Prelude.{◌≡◌};
 ghost use Rattle.entries.specs.Entries.{good_stretch, good_image, good_kind, good_entry};
 
 use super::Entry;
-use bits::row_bytes;
 
 fn good_stretch(e: Entry) -> bool
     ensures { result ≡ good_stretch e }
@@ -27,7 +26,7 @@ fn good_image(n: usize, e: Entry) -> bool
     if n < e.start {
         return false;
     }
-    let size = row_bytes(e.original_width as usize) * e.original_height as usize;
+    let size = (e.original_width as usize + 7) / 8 * e.original_height as usize;
     if n - e.start < size {
         return false;
     }

@@ -1,7 +1,7 @@
 -- From tests to a refusal's number, and from number 0 to what was tested. Assumes nothing.
 use mathlib.Core.Path.{◌≡◌, refl}
 use mathlib.Core.Bool.{Bool, true, false, not, ◌&&◌}
-use Prim.Native.Nat.{ℕ, ◌+◌, ◌*◌, ◌/◌, ◌≤◌, ◌%◌, ◌<◌}
+use Prim.Native.Nat.{ℕ, ◌+◌, ◌*◌, ◌/◌, ◌≤◌}
 use native.Mathlib.Omega.{arith}
 use lib.Dec.{eqb}
 use borrow.Author.Tests.{eqb-true, eqb-false, eq-eqb, ne_eqb}
@@ -14,10 +14,6 @@ use Rattle.images.specs.Stretching.{is_large}
 use Rattle.images.proofs.Sides.{Small, small}
 use Rattle.graphics.specs.Decoding.{lacks_room, refusal}
 use Rattle.graphics.specs.Layers.{layer_bytes, outgrown, layers_refusal}
-use mathlib.Core.Logic.{◌≢◌}
-use native.Mathlib.Nat.{add-mul}
-use Rattle.bits.specs.Bits.{row_bytes}
-use Rattle.images.specs.declared.formats.Format.TheVariants.{Bits}
 
 -- ---- a single-colour image
 
@@ -106,19 +102,3 @@ module _ (bits : Bool) (w h fx fy n size room : ℕ) where
       go false true false false s t la lb lc ld lt r = absurd (omega arith)
       go false true false true true t la lb lc ld lt r = absurd (omega arith)
       go false true false true false true la lb lc ld lt r = absurd (omega arith)
-
--- with w mod 8 ≠ 0 and h > 0 floor(w/8)·h bytes are not ceil(w/8)·h
-uneven : (w h : ℕ) → w % 8 ≢ 0 → 0 < h → layer_bytes true w h ≢ bytes_of Bits w h
-unfolding layer_bytes bytes_of
-uneven w h u p e =
-    let more : row_bytes w ≡ w / 8 + 1 = omega arith in
-    let all : row_bytes w * h ≡ w / 8 * h + 1 * h = rw more (add-mul (w / 8) 1 h) in
-    omega arith
-
--- so as bits with w mod 8 ≠ 0, h > 0 and n > 0 every length is refused
-pub layers-uneven : (w h fx fy n size room : ℕ) → is_large w h fx fy ≡ false → w % 8 ≢ 0 → 0 < h → 0 < n → wrong_length ≡ layers_refusal true w h fx fy n size room
-layers-uneven w h fx fy n size room l u p q = go (eqb size (n * (1 + layer_bytes true w h))) refl
-  where
-    go : (t : Bool) → eqb size (n * (1 + layer_bytes true w h)) ≡ t → wrong_length ≡ layers_refusal true w h fx fy n size room
-    go true t = layers-inner true w h fx fy n size room l (eqb-true size _ t) (λ z. omega arith) (uneven w h u p)
-    go false t = layers-length true w h fx fy n size room l (eqb-false size _ t)

@@ -7,12 +7,11 @@ use lib.Ieee.{of_int, mul, div}
 use Rattle.colour.specs.declared.RGBA.{RGBA}
 use Rattle.colour.specs.Channel.{blend_byte, product, round_away, multiply_byte}
 use Rattle.colour.specs.Colour.{rgba, with_alpha}
-use Rattle.dots.specs.Dots.{tab, chan, paint, change, within}
 use Rattle.images.specs.declared.formats.Format.TheVariants.{Bits, Columns}
 use Rattle.bits.specs.Bits.{bit_alpha}
 use Rattle.images.specs.Formats.{alpha_of, bytes_of}
-use Rattle.images.specs.Stretching.{factor, pixel_of, is_large}
-use Rattle.graphics.specs.Decoding.{lacks_room, refusal, answer, output, decoded, decoded_on}
+use Rattle.images.specs.Stretching.{factor, is_large}
+use Rattle.graphics.specs.Decoding.{lacks_room, refusal, answer, decoded}
 use Rattle.graphics.specs.Layers.{layer_bytes, outgrown, layers_refusal, merged}
 
 -- what the definitions give, and what 01 says
@@ -35,10 +34,6 @@ raster bytes = alpha_of Bits bytes 3 2 0 0 ∷ alpha_of Bits bytes 3 2 1 0 ∷ a
 
 column : List ℕ → List ℕ
 column bytes = alpha_of Columns bytes 2 3 0 0 ∷ alpha_of Columns bytes 2 3 1 0 ∷ alpha_of Columns bytes 2 3 0 1 ∷ alpha_of Columns bytes 2 3 1 1 ∷ alpha_of Columns bytes 2 3 0 2 ∷ alpha_of Columns bytes 2 3 1 2 ∷ []
-
--- bit rows of 3 by 1 in the colour (10, 20, 30, 255), put on an output of 14 bytes
-put : List ℕ → List ℕ
-put bytes = decoded_on Bits bytes 3 1 1 1 (rgba 10 20 30 255) (1 ∷ 2 ∷ 3 ∷ 4 ∷ 5 ∷ 6 ∷ 7 ∷ 8 ∷ 9 ∷ 10 ∷ 11 ∷ 12 ∷ 13 ∷ 14 ∷ [])
 
 -- the number for bit rows of w by h, unstretched, in n bytes, with room enough
 number : ℕ → ℕ → ℕ → ℕ
@@ -66,13 +61,8 @@ rows =
     ∷ ((merged true 12 1 1 1 1 2 1000).number ∷ []) is (3 ∷ [])
     -- the damaged mark: 512 wide, 8,388,608 tall, no data
     ∷ (number 512 8388608 0 ∷ []) is (2 ∷ [])
-    -- an output with its tail; refused, it stays
-    ∷ put (0xA0 ∷ []) is (10 ∷ 20 ∷ 20 ∷ 255 ∷ 10 ∷ 20 ∷ 20 ∷ 0 ∷ 10 ∷ 20 ∷ 20 ∷ 255 ∷ 13 ∷ 14 ∷ [])
-    ∷ put [] is (1 ∷ 2 ∷ 3 ∷ 4 ∷ 5 ∷ 6 ∷ 7 ∷ 8 ∷ 9 ∷ 10 ∷ 11 ∷ 12 ∷ 13 ∷ 14 ∷ [])
-    -- refused for two causes: too large and a wrong length, a wrong length and no room; no layers, and one byte
-    ∷ ((decoded Bits 20000 1 1 1 0 0).number ∷ (decoded Bits 3 2 1 1 1 0).number ∷ (merged true 8 1 1 1 0 1 1000).number ∷ []) is (2 ∷ 3 ∷ 3 ∷ [])
     ∷ []
 
 examples : map given rows ≡ map said rows
-unfolding rows given said pixel raster column put number blend_byte multiply_byte round_away product of_int mul div tab chan paint change within bit_alpha alpha_of bytes_of factor pixel_of is_large lacks_room refusal answer output decoded decoded_on layer_bytes outgrown layers_refusal merged
+unfolding rows given said pixel raster column number blend_byte multiply_byte round_away product of_int mul div bit_alpha alpha_of bytes_of factor is_large lacks_room refusal answer decoded layer_bytes outgrown layers_refusal merged
 examples = refl

@@ -32,7 +32,7 @@ fn draw_layer(
 }
 
 // Layers 2 to n blend onto layer 1 at their own alpha.
-pub(crate) fn merge_image_layers(
+pub fn merge_image_layers(
     out: &mut [u8],
     data: &[u8],
     bits: bool,

@@ -14,15 +14,7 @@ fn lacks_room(w: u32, h: u32, fx: u32, fy: u32, room: usize) -> bool
     room < 4 * ((w * fx) as usize * (h * fy) as usize)
 }
 
-pub(crate) fn refusal_of(
-    format: Format,
-    w: u32,
-    h: u32,
-    fx: u32,
-    fy: u32,
-    n: usize,
-    room: usize,
-) -> u8
+pub fn refusal_of(format: Format, w: u32, h: u32, fx: u32, fy: u32, n: usize, room: usize) -> u8
     requires { (fx ≤ 255) × (fy ≤ 255) }
     ensures { result ≡ refusal format w h fx fy n room }
 {
@@ -38,7 +30,7 @@ pub(crate) fn refusal_of(
     DONE
 }
 
-pub(crate) fn layer_bytes(bits: bool, w: usize, h: usize) -> usize
+pub fn layer_bytes(bits: bool, w: usize, h: usize) -> usize
     requires { (w ≤ limit) × (h ≤ limit) }
     ensures { result ≡ layer_bytes bits w h }
 {
@@ -58,7 +50,7 @@ fn outgrows(w: u32, h: u32, later_w: u32, later_h: u32) -> bool
     h < later_h
 }
 
-pub(crate) fn layers_refusal(
+pub fn layers_refusal(
     bits: bool,
     w: u32,
     h: u32,

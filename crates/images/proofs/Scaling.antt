@@ -7,32 +7,28 @@ use native.Mathlib.Nat.{div-add-mod', mod-lt, div-eq_of_lt-le, div-lt_iff_lt-mul
 use native.Mathlib.Omega.{arith}
 use lib.ListN.{length}
 use borrow.Author.Tests.{eqb-false, not-true}
+use Rattle.numbers.specs.Numbers.{limit}
 use Rattle.colour.specs.declared.RGBA.{RGBA}
 use Rattle.colour.specs.Colour.{with_alpha}
 use Rattle.dots.specs.Dots.{dot_at, set_dot, change, within}
 use Rattle.dots.proofs.Laws.{run_none, run-turn, run_more, length-change, change-by, change-picked, within-yes, within-true}
 use Rattle.dots.proofs.Blocks.{in_block, in_row}
 use Rattle.images.specs.declared.scale.Source.{Source}
-use Rattle.images.specs.declared.formats.Format.{Format}
-use Rattle.images.specs.declared.formats.Format.TheVariants.{Bits, Alphas, Columns}
+use Rattle.images.specs.declared.formats.Format.TheVariants.{Bits}
 use Rattle.bits.specs.Bits.{row_bytes, Shown, bits_on, alpha_landed}
 use Rattle.images.specs.Formats.{alpha_of, bytes_of}
 use Rattle.images.specs.Stretching.{pixel_of}
 use Rattle.bits.specs.Bits.{landed}
-use Rattle.images.specs.Steps.{Sound, is_bits, Above, repeated, source_pixel, picture_row_on, picture_on}
+use Rattle.images.specs.Steps.{Sound, Above, repeated, source_pixel, picture_row_on, picture_on}
+use Rattle.images.proofs.Sides.{sides}
 use Rattle.images.proofs.Places.{line-fits, row-in-data}
 
 -- ---- what a sound source gives to read a dot
 
 pub source-dot : (s : Source) {n j x : ℕ} → Sound s n → j < s.h * s.fy → x < s.w
-    → is_bits s.format ≡ false → (is_bits s.format ≡ false) × (x < s.w) × (j / s.fy < s.h) × (bytes_of s.format s.w s.h ≤ n)
-source-dot s {n} {j} {x} o hj hx e = (e, hx, (div-lt_iff_lt-mul o.fy).1 hj, o.bytes)
-
-pub is-bits : (f : Format) → is_bits f ≡ true → f ≡ Bits
-unfolding is_bits
-is-bits Bits e = refl
-is-bits Alphas e = absurd (true≢false (sym e))
-is-bits Columns e = absurd (true≢false (sym e))
+    → (s.w ≤ limit) × (s.h ≤ limit) × (x < s.w) × (j / s.fy < s.h) × (bytes_of s.format s.w s.h ≤ n)
+source-dot s {n} {j} {x} o hj hx =
+    ((sides s o).0, (sides s o).1, hx, (div-lt_iff_lt-mul o.fy).1 hj, o.bytes)
 
 -- ---- a row: x source dots are written, up to dot i
 

@@ -1,12 +1,10 @@
 -- The steps of decoding one colour: a source that is known to be sound, put on an output or blended onto it.
-use Rattle.std.specs.Prelude.{ℕ, ◌+◌, ◌-◌, ◌*◌, ◌/◌, ◌%◌, ◌≤◌, ◌<◌, ◌≡◌, Bool, true, false, not, ◌&&◌, List, eqb}
+use Rattle.std.specs.Prelude.{ℕ, ◌+◌, ◌-◌, ◌*◌, ◌/◌, ◌%◌, ◌≤◌, ◌<◌, ◌≡◌, Bool, true, not, ◌&&◌, List, eqb}
 use Rattle.numbers.specs.Numbers.{limit}
 use Rattle.colour.specs.declared.RGBA.{RGBA}
 use Rattle.dots.specs.Dots.{dot_at, change, within}
 use Rattle.bits.specs.Bits.{landed}
 use Rattle.images.specs.declared.scale.Source.{Source}
-use Rattle.images.specs.declared.formats.Format.{Format}
-use Rattle.images.specs.declared.formats.Format.TheVariants.{Bits, Alphas, Columns}
 use Rattle.images.specs.Formats.{bytes_of}
 use Rattle.images.specs.Stretching.{pixel_of}
 
@@ -17,12 +15,6 @@ pub record Sound (s : Source) (n : ℕ) : Type 0 where
   pub wide : s.w * s.fx ≤ limit
   pub tall : s.h * s.fy ≤ limit
   pub bytes : bytes_of s.format s.w s.h ≤ n
-
--- rows of bits have a step of their own
-unfoldable pub is_bits : Format → Bool
-is_bits Bits = true
-is_bits Alphas = false
-is_bits Columns = false
 
 -- the same source in another colour
 abbrev pub in_color : Source → RGBA → Source

@@ -1,11 +1,11 @@
 // From a source to dots: each source dot becomes a block of dots on the output.
-ghost use Rattle.std.specs.Prelude.{◌≡◌, ◌+◌, ◌*◌, ◌≤◌, ◌<◌, length, false};
+ghost use Rattle.std.specs.Prelude.{◌≡◌, true, ◌+◌, ◌*◌, ◌≤◌, ◌<◌, length};
 ghost use Rattle.dots.specs.Dots.{dot_at, set_dot, change, within};
 ghost use Rattle.bits.specs.Bits.{landed};
-ghost use Rattle.images.specs.Steps.{Sound, in_color, repeated, source_pixel, Above, picture_row_on, picture_on, is_bits};
+ghost use Rattle.images.specs.Steps.{Sound, in_color, repeated, source_pixel, Above, picture_row_on, picture_on};
 
-use super::formats::{Format, alpha_at, is_bits};
-use bits::{row_bytes, unpack_row};
+use super::formats::{Format, alpha_at, row_bytes};
+use bits::unpack_row;
 use colour::RGBA;
 use dots::{draw_run, fill_run, get_dot, set_dot};
 use moves::move_run;
@@ -55,7 +55,7 @@ fn land_run(out: &mut [u8], at: usize, count: usize, pixel: RGBA, blend: bool)
 
 // A row that is not stretched.
 fn plain_pixels(out: &mut [u8], at: usize, data: &[u8], source: Source, j: usize, blend: bool)
-    requires sound { Sound source (length «data».now) × (is_bits source.format ≡ false) × (source.fx ≡ 1) }
+    requires sound { Sound source (length «data».now) × (source.fx ≡ 1) }
     requires j_bound { (j < source.h * source.fy) × ((at + source.w * source.fx) * 4 ≤ length out.old) }
     ensures { out.new ≡ picture_row_on at (source.w * source.fx) blend (source_pixel source «data».now) j out.old }
 {
@@ -75,7 +75,7 @@ fn plain_pixels(out: &mut [u8], at: usize, data: &[u8], source: Source, j: usize
 }
 
 fn scale_pixels(out: &mut [u8], at: usize, data: &[u8], source: Source, j: usize, blend: bool)
-    requires sound { Sound source (length «data».now) × (is_bits source.format ≡ false) }
+    requires sound { Sound source (length «data».now) }
     requires j_bound { (j < source.h * source.fy) × ((at + source.w * source.fx) * 4 ≤ length out.old) }
     ensures { out.new ≡ picture_row_on at (source.w * source.fx) blend (source_pixel source «data».now) j out.old }
 {
@@ -104,6 +104,17 @@ fn repeats(j: usize, fy: usize, blend: bool) -> bool
         return false;
     }
     j % fy != 0
+}
+
+// Rows of bits have a way of their own, which is sooner done.
+fn is_bits(format: Format) -> bool
+    ensures { result ≡ true → format ≡ Format.Bits }
+{
+    match format {
+        Format::Bits => true,
+        Format::Alphas => false,
+        Format::Columns => false,
+    }
 }
 
 fn draw_row(out: &mut [u8], at: usize, data: &[u8], source: Source, j: usize, blend: bool)

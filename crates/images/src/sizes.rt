@@ -5,7 +5,6 @@ ghost use Rattle.images.specs.Formats.{bytes_of};
 ghost use Rattle.images.specs.Stretching.{factor, is_large};
 
 use super::formats::Format;
-use bits::row_bytes;
 use numbers::LIMIT;
 
 pub fn factor_of(stretch: u8) -> u32
@@ -40,8 +39,8 @@ pub fn bytes_of(format: Format, w: u32, h: u32) -> usize
     let w = w as usize;
     let h = h as usize;
     match format {
-        Format::Bits => row_bytes(w) * h,
+        Format::Bits => (w + 7) / 8 * h,
         Format::Alphas => w * h,
-        Format::Columns => w * row_bytes(h),
+        Format::Columns => w * ((h + 7) / 8),
     }
 }

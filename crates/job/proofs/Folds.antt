@@ -11,9 +11,8 @@ use Rattle.numbers.specs.Numbers.{limit, done}
 use Rattle.std.specs.Prelude.{if◌then◌else◌}
 use Rattle.job.specs.declared.commands.Command.{Command}
 use Rattle.job.specs.declared.commands.Command.TheVariants.{Rectangle, Image, Margin, Flip}
-use Rattle.job.specs.Dropping.{most_commands, reason_of, height_after, kept, next_height, height_from, kept_from, dropped_from, filled_up, no_dropped, dropped_list, also_dropped}
+use Rattle.job.specs.Dropping.{most_commands, reason_of, height_after, kept, next_height, height_from, kept_from, dropped_from, filled_up}
 use Rattle.job.proofs.Reasons.{after-fits}
-use Rattle.job.specs.declared.dropping.Dropped.{Dropped}
 
 -- ---- one command, kept or dropped
 
@@ -91,9 +90,3 @@ filled_more z a l h =
     let n : ℕ = most_commands - length (l ++ (a ∷ [])) in
     let e : most_commands - length l ≡ suc n = omega (arith, length-append l (a ∷ [])) in
     rw e (set-append_seam l z (replicate n z) a ∙ sym (append_snoc l a (replicate n z)))
-
--- the dropped list so far, and one command more at its end
-pub also-dropped : (ds : List Dropped) (k why : ℕ) → length ds < most_commands → also_dropped (dropped_list ds) k why ≡ dropped_list (ds ++ (record { place = k; reason = why } ∷ []))
-also-dropped ds k why h =
-    let d : Dropped = record { place = k; reason = why } in
-    rw (filled_more no_dropped d ds h, ← length-append ds (d ∷ [])) refl

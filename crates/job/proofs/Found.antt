@@ -104,22 +104,22 @@ module _ (s : List ℕ) (at : ℕ) where
 
 -- ---- every body lies within n bytes
 
-pub data Contained (n : ℕ) : Records → Type 0 where
-  in-ended : Contained n ended
-  in-broken : Contained n broken
-  in-rec : {k st size : ℕ} {rest : Records} → st + size ≤ n → Contained n rest → Contained n (rec k st size rest)
+pub data Inside (n : ℕ) : Records → Type 0 where
+  in-ended : Inside n ended
+  in-broken : Inside n broken
+  in-rec : {k st size : ℕ} {rest : Records} → st + size ≤ n → Inside n rest → Inside n (rec k st size rest)
 
-contained-then : {s : List ℕ} {at : ℕ} {r : Rec} (f : ℕ → Records) → Seen s at r → ((nx : ℕ) → Contained (length s) (f nx)) → Contained (length s) (record_then f r)
+inside-then : {s : List ℕ} {at : ℕ} {r : Rec} (f : ℕ → Records) → Seen s at r → ((nx : ℕ) → Inside (length s) (f nx)) → Inside (length s) (record_then f r)
 unfolding record_then
-contained-then f (see-end h) g = in-ended
-contained-then f (see-bad h) g = in-broken
-contained-then f (see-rec {st = st} {n = n} {nx = nx} h h' b) g = in-rec {st = st} {size = n} (omega arith) (g nx)
+inside-then f (see-end h) g = in-ended
+inside-then f (see-bad h) g = in-broken
+inside-then f (see-rec {st = st} {n = n} {nx = nx} h h' b) g = in-rec {st = st} {size = n} (omega arith) (g nx)
 
-contained-up_to : (n : ℕ) (s : List ℕ) (at : ℕ) → Contained (length s) (up_to n s at)
+inside-up_to : (n : ℕ) (s : List ℕ) (at : ℕ) → Inside (length s) (up_to n s at)
 unfolding up_to
-contained-up_to zero s at = in-ended
-contained-up_to (suc n) s at = contained-then (up_to n s) (seen s at) (contained-up_to n s)
+inside-up_to zero s at = in-ended
+inside-up_to (suc n) s at = inside-then (up_to n s) (seen s at) (inside-up_to n s)
 
-pub contained : (s : List ℕ) (at : ℕ) → Contained (length s) (records s at)
+pub inside : (s : List ℕ) (at : ℕ) → Inside (length s) (records s at)
 unfolding records
-contained s at = contained-up_to (length s - at) s at
+inside s at = inside-up_to (length s - at) s at

@@ -8,7 +8,7 @@ use lib.Dec.{eqb}
 use Rattle.numbers.specs.Numbers.{limit, done, too_large, wrong_length}
 use Rattle.colour.specs.declared.RGBA.{RGBA}
 use Rattle.refusals.specs.Refusals.{tall_refusal}
-use Rattle.refusals.proofs.Codes.{first_done, passed_on, tall-exact, side-exact, off-exact, across-exact, empty-exact}
+use Rattle.refusals.proofs.Codes.{first_done, passed_on, tall-done, side-done, off-done, across-done, empty-done}
 use Rattle.images.specs.declared.formats.Format.TheVariants.{Bits}
 use Rattle.images.specs.Formats.{bytes_of}
 use Rattle.images.specs.Stretching.{factor, is_large}
@@ -85,8 +85,8 @@ unfolding put_reason
 put-kept W H x y w h e =
     let a = first_done _ _ e in
     let b = first_done _ _ a.1 in
-    let s = (side-exact w h).held a.0 in
-    record { wide = s.0; high = s.1; on = ((off-exact W H true x y).held b.0).0; fits = (tall-exact _).held b.1 }
+    let s = side-done w h a.0 in
+    record { wide = s.0; high = s.1; on = off-done W H true x y b.0; fits = tall-done _ b.1 }
 
 pub record ImageKept (W H x y w h fx fy size : ℕ) : Type 0 where
   pub sides : Small w h fx fy
@@ -111,8 +111,8 @@ unfolding flip_reason
 flip-kept W H x y w h e =
     let a = first_done _ _ e in
     let b = first_done _ _ a.1 in
-    let s = (empty-exact w h).held a.0 in
-    record { wide = s.0; high = s.1; on = (across-exact W x w).held b.0; fits = (tall-exact _).held b.1 }
+    let s = empty-done w h a.0 in
+    record { wide = s.0; high = s.1; on = across-done W x w b.0; fits = tall-done _ b.1 }
 
 -- the same of a command, by its kind
 module _ (W H : ℕ) {d : Command} (k : reason_of W H d ≡ done) where
@@ -126,7 +126,7 @@ module _ (W H : ℕ) {d : Command} (k : reason_of W H d ≡ done) where
 
   pub margin-kept : {m : ℕ} → d ≡ Margin m → H + m ≤ limit
   unfolding reason_of
-  margin-kept e = (tall-exact _).held (rw e at k)
+  margin-kept e = tall-done _ (rw e at k)
 
   pub mirrored-kept : {x y w h : ℕ} → d ≡ Flip x y w h → FlipKept W H x y w h
   unfolding reason_of

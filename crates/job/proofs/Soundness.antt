@@ -1,6 +1,6 @@
 -- What soundness says of the paper and of each command. Assumes nothing.
-use Prim.Native.Nat.{ℕ, ◌+◌, ◌≤◌, ◌<◌}
-use mathlib.Core.Path.{◌≡◌}
+use Prim.Native.Nat.{ℕ, ◌+◌, ◌-◌, ◌≤◌, ◌<◌}
+use mathlib.Core.Path.{◌≡◌, refl}
 use mathlib.Core.List.{List, [], ◌∷◌}
 use mathlib.Core.Bool.{Bool, true, false, ◌&&◌}
 use native.Mathlib.Omega.{arith}
@@ -9,12 +9,13 @@ use lib.Dec.{leb, eqb}
 use lib.ListN.{length}
 use Rattle.numbers.specs.Numbers.{limit}
 use Rattle.std.specs.Prelude.{if◌then◌else◌}
+use Rattle.colour.specs.declared.RGBA.{RGBA}
 use Rattle.colour.proofs.Tests.{and_both}
 use Rattle.job.specs.declared.commands.Command.{Command}
 use Rattle.job.specs.declared.commands.Command.TheVariants.{Rectangle, Image, Margin, Flip}
-use Rattle.job.specs.Records.{byte_at, Bytes, le32, Records, ended, broken, rec}
-use Rattle.job.specs.Commands.{paper_kind, rectangle_kind, image_kind, margin_kind, flip_kind, paper_size, rectangle_size, image_size, margin_size, flip_size, sound_mode, sound_paper, sound_command, sound_commands, rectangle_at, image_at, flip_at, command_at, commands_in, mode_of, Inside, Held}
-use Rattle.job.proofs.Found.{in-ended, in-broken, in-rec, Contained}
+use Rattle.job.specs.Records.{byte_at, Bytes, le32, Records}
+use Rattle.job.specs.Commands.{paper_kind, rectangle_kind, image_kind, margin_kind, flip_kind, paper_size, rectangle_size, image_size, margin_size, flip_size, sound_mode, sound_paper, sound_command, sound_commands, rectangle_at, image_at, flip_at, command_at, commands_in}
+use Rattle.job.proofs.Found.{Inside, in-ended, in-broken, in-rec}
 
 -- ---- the paper
 
@@ -118,59 +119,49 @@ module _ (s : List ℕ) (kind at n : ℕ) where
   unfolding command_at
   is-margin a = rw (ne_eqb kind rectangle_kind (λ z. omega arith), ne_eqb kind image_kind (λ z. omega arith), eq-eqb kind margin_kind a)
 
--- ---- the command of a sound record
+-- ---- a command of a sound record: its mode is one, its stretches are bytes and its bit rows lie in the job
 
--- its stretches are bytes
-unfoldable pub Stretched : Command → Type 0
-Stretched (Rectangle x y w h c mode) = Unit {0}
-Stretched (Image x y w h sx sy c mode start size) = (sx ≤ 255) × (sy ≤ 255)
-Stretched (Margin m) = Unit {0}
-Stretched (Flip x y w h) = Unit {0}
+-- P says what a stretch is
+pub data SaneBy (P : ℕ → Type 0) (s : List ℕ) : Command → Type 0 where
+  sane-rectangle : {x y w h : ℕ} {c : RGBA} {mode : ℕ} → mode ≤ 1 → SaneBy P s (Rectangle x y w h c mode)
+  sane-image : {x y w h sx sy : ℕ} {c : RGBA} {mode start size : ℕ} → mode ≤ 1 → P sx → P sy → start + size ≤ length s → SaneBy P s (Image x y w h sx sy c mode start size)
+  sane-margin : {m : ℕ} → SaneBy P s (Margin m)
+  sane-flip : {x y w h : ℕ} → SaneBy P s (Flip x y w h)
 
-module _ (s : List ℕ) (kind at n : ℕ) where
-  held_by : (k2 k3 k4 : Bool) → at + n ≤ length s
-      → (if k2 then eqb n rectangle_size && sound_mode (byte_at s (at + 20)) else if k3 then leb image_size n && sound_mode (byte_at s (at + 22)) else if k4 then eqb n margin_size else eqb kind flip_kind && eqb n flip_size) ≡ true
-      → Held s (if k2 then rectangle_at s at else if k3 then image_at s at n else if k4 then Margin (le32 s at) else flip_at s at)
-  unfolding mode_of Inside
-  held_by true k3 k4 f e = record { mode = leb-true _ _ (and_both (eqb n rectangle_size) (sound_mode (byte_at s (at + 20))) e).1; inside = tt }
-  held_by false true k4 f e =
-      let g = and_both (leb image_size n) (sound_mode (byte_at s (at + 22))) e in
-      let l : image_size ≤ n = leb-true _ _ g.0 in
-      record { mode = leb-true _ _ g.1; inside = omega arith }
-  held_by false false true f e = record { mode = omega arith; inside = tt }
-  held_by false false false f e = record { mode = omega arith; inside = tt }
+abbrev pub Sane : List ℕ → Command → Type 0
+Sane s c = SaneBy (λ n. n ≤ 255) s c
 
-  pub held : at + n ≤ length s → sound_command s kind at n ≡ true → Held s (command_at s kind at n)
-  unfolding sound_command command_at
-  held f e = held_by (eqb kind rectangle_kind) (eqb kind image_kind) (eqb kind margin_kind) f e
+-- nothing is asked of a stretch
+abbrev pub Held : List ℕ → Command → Type 0
+Held s c = SaneBy (λ n. n ≡ n) s c
 
-  stretched-by : (k2 k3 k4 : Bool) → Bytes s → Stretched (if k2 then rectangle_at s at else if k3 then image_at s at n else if k4 then Margin (le32 s at) else flip_at s at)
-  unfolding Stretched
-  stretched-by true k3 k4 b = tt
-  stretched-by false true k4 b = (b (at + 16), b (at + 17))
-  stretched-by false false true b = tt
-  stretched-by false false false b = tt
+pub data AllSane (s : List ℕ) : List Command → Type 0 where
+  sane-none : AllSane s []
+  sane-more : {c : Command} {cs : List Command} → Sane s c → AllSane s cs → AllSane s (c ∷ cs)
 
-  stretched : Bytes s → Stretched (command_at s kind at n)
-  unfolding command_at
-  stretched b = stretched-by (eqb kind rectangle_kind) (eqb kind image_kind) (eqb kind margin_kind) b
+sane-by : (P : ℕ → Type 0) (s : List ℕ) (kind at n : ℕ) (k2 k3 k4 : Bool) → ((i : ℕ) → P (byte_at s i)) → at + n ≤ length s
+    → (if k2 then eqb n rectangle_size && sound_mode (byte_at s (at + 20)) else if k3 then leb image_size n && sound_mode (byte_at s (at + 22)) else if k4 then eqb n margin_size else eqb kind flip_kind && eqb n flip_size) ≡ true
+    → SaneBy P s (if k2 then rectangle_at s at else if k3 then image_at s at n else if k4 then Margin (le32 s at) else flip_at s at)
+sane-by P s kind at n true k3 k4 b f e = sane-rectangle (leb-true _ _ (and_both (eqb n rectangle_size) (sound_mode (byte_at s (at + 20))) e).1)
+sane-by P s kind at n false true k4 b f e =
+    let g = and_both (leb image_size n) (sound_mode (byte_at s (at + 22))) e in
+    let l : image_size ≤ n = leb-true _ _ g.0 in
+    let room : at + image_size + (n - image_size) ≤ length s = omega arith in
+    sane-image (leb-true _ _ g.1) (b (at + 16)) (b (at + 17)) room
+sane-by P s kind at n false false true b f e = sane-margin
+sane-by P s kind at n false false false b f e = sane-flip
 
--- ---- the commands of sound records
+pub sane : (P : ℕ → Type 0) (s : List ℕ) (kind at n : ℕ) → ((i : ℕ) → P (byte_at s i)) → at + n ≤ length s → sound_command s kind at n ≡ true → SaneBy P s (command_at s kind at n)
+unfolding sound_command command_at
+sane P s kind at n b f e = sane-by P s kind at n (eqb kind rectangle_kind) (eqb kind image_kind) (eqb kind margin_kind) b f e
 
-pub data Each (P : Command → Type 0) : List Command → Type 0 where
-  each_none : Each P []
-  each_more : {c : Command} {cs : List Command} → P c → Each P cs → Each P (c ∷ cs)
+pub held : (s : List ℕ) (kind at n : ℕ) → at + n ≤ length s → sound_command s kind at n ≡ true → Held s (command_at s kind at n)
+held s kind at n f e = sane (λ n. n ≡ n) s kind at n (λ i. refl) f e
 
-pub all_held : (s : List ℕ) {rs : Records} → Contained (length s) rs → sound_commands s rs ≡ true → Each (Held s) (commands_in s rs)
+pub all-sane : (s : List ℕ) {rs : Records} → Bytes s → Inside (length s) rs → sound_commands s rs ≡ true → AllSane s (commands_in s rs)
 unfolding sound_commands commands_in
-all_held s in-ended e = each_none
-all_held s in-broken e = each_none
-all_held s (in-rec {k} {st} {size} {rest} f r) e =
+all-sane s b in-ended e = sane-none
+all-sane s b in-broken e = sane-none
+all-sane s b (in-rec {k} {st} {size} {rest} f r) e =
     let g = and_both (sound_command s k st size) (sound_commands s rest) e in
-    each_more (held s k st size f g.0) (all_held s r g.1)
-
-pub all-stretched : (s : List ℕ) → Bytes s → (rs : Records) → Each Stretched (commands_in s rs)
-unfolding commands_in
-all-stretched s b ended = each_none
-all-stretched s b broken = each_none
-all-stretched s b (rec k st size rest) = each_more (stretched s k st size b) (all-stretched s b rest)
+    sane-more (sane (λ n. n ≤ 255) s k st size b f g.0) (all-sane s b r g.1)

@@ -4,8 +4,8 @@ use mathlib.Core.Path.{◌≡◌, refl, ap, sym, ◌∙◌}
 use mathlib.Core.List.{List, [], ◌∷◌, ◌++◌, append_assoc, append-nil}
 use mathlib.Core.Bool.{Bool, true, false, not, ◌&&◌, true≢false}
 use native.Mathlib.Omega.{arith}
-use borrow.Author.Tests.{lt-ltb, le-ltb, ltb-false, eqb-true, eqb-false}
-use lib.Dec.{ltb, eqb}
+use borrow.Author.Tests.{lt-ltb, le-ltb, ltb-false}
+use lib.Dec.{ltb}
 use lib.ListN.{length, length-append}
 use Rattle.numbers.specs.Numbers.{limit, done, bad_job, too_long}
 use Rattle.std.specs.Prelude.{if◌then◌else◌}
@@ -15,12 +15,12 @@ use Rattle.job.specs.declared.records.Rec.TheVariants.{Record, Bad, End}
 use Rattle.job.specs.declared.commands.Command.{Command}
 use Rattle.job.specs.declared.dropping.Dropped.{Dropped}
 use Rattle.job.specs.Records.{le32, record_at, records, Bytes}
-use Rattle.job.specs.Commands.{sound_paper, sound_command, sound_commands, sound_records, sound, commands_start, paper_width, command_at, commands_in, after_paper, commands, Held}
-use Rattle.job.specs.Dropping.{most_commands, job_refusal, reason_of, height_after, height_from, kept_from, dropped_from, job_height, kept_of, job_dropped, job_number, next_height}
-use Rattle.job.proofs.Found.{found, records-record, records-end, records-bad, contained}
-use Rattle.job.proofs.Soundness.{paper, Stretched, Each, all_held, all-stretched}
+use Rattle.job.specs.Commands.{sound_paper, sound_command, sound_commands, sound_records, sound, commands_start, paper_width, command_at, commands_in, after_paper, commands}
+use Rattle.job.specs.Dropping.{most_commands, number_of, job_refusal, reason_of, height_after, height_from, kept_from, dropped_from, job_height, kept_of, job_dropped}
+use Rattle.job.proofs.Found.{found, records-record, records-end, records-bad, inside}
+use Rattle.job.proofs.Soundness.{paper, AllSane, all-sane}
 use Rattle.job.proofs.Reasons.{after-fits}
-use Rattle.job.proofs.Folds.{height-kept, kept-kept, dropped-kept, height-dropped, kept-dropped, dropped-dropped, height-more}
+use Rattle.job.proofs.Folds.{height-kept, kept-kept, dropped-kept, height-dropped, kept-dropped, dropped-dropped}
 
 -- the commands from a position on
 abbrev pub rest : List ℕ → ℕ → List Command
@@ -70,32 +70,32 @@ module _ (s : List ℕ) (from at n : ℕ) (g : Checked s from at n) where
       let c : length (rest s from) ≡ n + suc (length (rest s nx)) = g.count ∙ rw (rest-record s at e) refl in
       record { tail = g.tail ∙ sound-record s at e ∙ rw (← f) refl; count = omega arith; few = omega (arith, g.few, d.start, d.whole); here = d.fits }
 
-  unsound : rest_sound s at ≡ false → bad_job ≡ job_number (rest_sound s from) (rest s from)
-  unfolding job_number
+  unsound : rest_sound s at ≡ false → bad_job ≡ number_of (rest_sound s from) (rest s from)
+  unfolding number_of
   unsound e = rw (g.tail, e)
 
-  pub checked-unsound : {kind st z nx : ℕ} → Record kind st z nx ≡ record_at s at → false ≡ sound_command s kind st z → bad_job ≡ job_number (rest_sound s from) (rest s from)
+  pub checked-unsound : {kind st z nx : ℕ} → Record kind st z nx ≡ record_at s at → false ≡ sound_command s kind st z → bad_job ≡ number_of (rest_sound s from) (rest s from)
   checked-unsound e f = unsound (sound-record s at e ∙ rw (← f) refl)
 
-  pub checked-bad : Bad ≡ record_at s at → bad_job ≡ job_number (rest_sound s from) (rest s from)
+  pub checked-bad : Bad ≡ record_at s at → bad_job ≡ number_of (rest_sound s from) (rest s from)
   checked-bad e = unsound (sound-bad s at e)
 
   all : End ≡ record_at s at → length (rest s from) ≡ n
   all e = let c : length (rest s from) ≡ n + 0 = g.count ∙ rw (rest_end s at e) refl in omega arith
 
-  pub checked-long : End ≡ record_at s at → most_commands < n → too_long ≡ job_number (rest_sound s from) (rest s from)
-  unfolding job_number
+  pub checked-long : End ≡ record_at s at → most_commands < n → too_long ≡ number_of (rest_sound s from) (rest s from)
+  unfolding number_of
   checked-long e h = rw (g.tail, sound-end s at e, lt-ltb most_commands (length (rest s from)) (omega (arith, all e)))
 
-  pub checked-done : End ≡ record_at s at → n ≤ most_commands → done ≡ job_number (rest_sound s from) (rest s from)
-  unfolding job_number
+  pub checked-done : End ≡ record_at s at → n ≤ most_commands → done ≡ number_of (rest_sound s from) (rest s from)
+  unfolding number_of
   checked-done e h = rw (g.tail, sound-end s at e, le-ltb most_commands (length (rest s from)) (omega (arith, all e)))
 
 -- ---- the whole job: its first record is the paper
 
 module _ (s : List ℕ) where
   no-paper : sound s ≡ false → bad_job ≡ job_refusal s
-  unfolding job_refusal job_number
+  unfolding job_refusal number_of
   no-paper e = rw e
 
   pub job-empty : End ≡ record_at s 0 → bad_job ≡ job_refusal s
@@ -118,7 +118,7 @@ module _ (s : List ℕ) where
     pub job-no-paper : false ≡ sound_paper s kind st n → bad_job ≡ job_refusal s
     job-no-paper f = no-paper (first-sound ∙ rw (← f) refl)
 
-    pub job-rest : true ≡ sound_paper s kind st n → {r : ℕ} → r ≡ job_number (rest_sound s nx) (rest s nx) → r ≡ job_refusal s
+    pub job-rest : true ≡ sound_paper s kind st n → {r : ℕ} → r ≡ number_of (rest_sound s nx) (rest s nx) → r ≡ job_refusal s
     unfolding job_refusal
     job-rest f q = q ∙ rw (first-sound, ← f, first-commands) refl
 
@@ -156,7 +156,7 @@ good-first s (Record kind st n nx) e f h =
     }
 
 pub good : (s : List ℕ) → job_refusal s ≡ done → Good s
-unfolding job_refusal job_number
+unfolding job_refusal number_of
 good s = go (sound s) (ltb most_commands (length (commands s))) refl refl
   where
     go : (a b : Bool) → sound s ≡ a → ltb most_commands (length (commands s)) ≡ b → (if not a then bad_job else if b then too_long else done) ≡ done → Good s
@@ -164,134 +164,96 @@ good s = go (sound s) (ltb most_commands (length (commands s))) refl refl
     go true true e f r = absurd (omega arith)
     go false b e f r = absurd (omega arith)
 
-pub commands-held : (s : List ℕ) → Good s → Each (Held s) (commands s)
-commands-held s g = rw g.commands (all_held s (contained s commands_start) g.sound)
+pub commands-sane : (s : List ℕ) → Bytes s → Good s → AllSane s (commands s)
+commands-sane s b g = rw g.commands (all-sane s b (inside s commands_start) g.sound)
 
-pub commands-stretched : (s : List ℕ) → Bytes s → Each Stretched (commands s)
-unfolding commands
-commands-stretched s b = all-stretched s b (after_paper (records s 0))
+-- ---- a walk over a good job: the commands from `at` on are left
 
--- ---- a walk over the commands of a good job, one after another. Every loop over them is one, and adds what it makes of them
-
--- the commands from `at` on are left. Of the k before it ks were kept and ds lists those dropped; the height is H so far, and `Own` says what the loop has made of them
-pub record Walk (s : List ℕ) (at : ℕ) (Own : ℕ → ℕ → List Command → List Dropped → Type 0) : Type 0 where
-  pub k : ℕ
-  pub H : ℕ
-  pub ks : List Command
-  pub ds : List Dropped
+pub record Left (s : List ℕ) (at : ℕ) : Type 0 where
   pub sound : rest_sound s at ≡ true
+  pub here : at ≤ length s
+
+pub left-start : (s : List ℕ) → Good s → Left s commands_start
+left-start s g = record { sound = g.sound; here = g.long }
+
+module _ (s : List ℕ) (at : ℕ) (g : Left s at) where
+  module _ {kind st n nx : ℕ} (e : Record kind st n nx ≡ record_at s at) where
+    both-sound : (sound_command s kind st n ≡ true) × (rest_sound s nx ≡ true)
+    both-sound = and_both (sound_command s kind st n) (rest_sound s nx) (sym (sound-record s at e) ∙ g.sound)
+
+    pub left-sound : sound_command s kind st n ≡ true
+    left-sound = both-sound.0
+
+    pub left-next : Left s nx
+    left-next = record { sound = both-sound.1; here = (found s at e).fits }
+
+  pub left-bad : Bad ≡ record_at s at → ⊥
+  left-bad e = true≢false (sym g.sound ∙ sound-bad s at e)
+
+-- ---- such a walk with k commands behind it: the height is H so far, ks were kept, and ds is the list of those dropped
+
+pub record Looked (s : List ℕ) (k at H : ℕ) (ks : List Command) (ds : List Dropped) : Type 0 where
+  pub left : Left s at
   pub count : k + length (rest s at) ≤ most_commands
   pub height : height_from (paper_width s) H (rest s at) ≡ job_height s
   pub kept : ks ++ kept_from (paper_width s) H (rest s at) ≡ kept_of s
   pub dropped : ds ++ dropped_from (paper_width s) H k (rest s at) ≡ job_dropped s
   pub all : length ks + length ds ≡ k
   pub fits : H ≤ limit
-  pub own : Own k H ks ds
 
-pub walk_start : (s : List ℕ) → Good s → {Own : ℕ → ℕ → List Command → List Dropped → Type 0} → Own 0 0 [] [] → Walk s commands_start Own
+pub looked-start : (s : List ℕ) → Good s → Looked s 0 commands_start 0 [] []
 unfolding job_height kept_of job_dropped
-walk_start s g o =
-    record {
-      k = 0;
-      H = 0;
-      ks = [];
-      ds = [];
-      sound = g.sound;
-      count = omega (arith, g.few);
-      height = rw g.commands;
-      kept = rw g.commands;
-      dropped = rw g.commands;
-      all = refl;
-      fits = omega arith;
-      own = o;
-    }
+looked-start s g =
+    record { left = left-start s g; count = omega (arith, g.few); height = rw g.commands; kept = rw g.commands; dropped = rw g.commands; all = refl; fits = omega arith }
 
-module _ (s : List ℕ) (at : ℕ) {Own : ℕ → ℕ → List Command → List Dropped → Type 0} (g : Walk s at Own) where
-  pub walk-bad : Bad ≡ record_at s at → ⊥
-  walk-bad e = true≢false (sym g.sound ∙ sound-bad s at e)
+module _ (s : List ℕ) (k at H : ℕ) (ks : List Command) (ds : List Dropped) (g : Looked s k at H ks ds) where
+  module _ {kind st n nx : ℕ} (e : Record kind st n nx ≡ record_at s at) {c : Command} (q : c ≡ command_at s kind st n) where
+    here : rest s at ≡ c ∷ rest s nx
+    here = rest-record s at e ∙ rw (← q) refl
 
-  pub walk_end : End ≡ record_at s at → Own g.k (job_height s) (kept_of s) (job_dropped s)
+    one_more : k + suc (length (rest s nx)) ≤ most_commands
+    one_more = rw here at g.count
+
+    pub looked-few : k < most_commands
+    looked-few = omega (arith, one_more)
+
+    pub looked-kept : reason_of (paper_width s) H c ≡ done → Looked s (k + 1) nx (height_after H c) (ks ++ (c ∷ [])) ds
+    looked-kept r =
+        let W = paper_width s in
+        record {
+          left = left-next s at g.left e;
+          count = omega (arith, one_more);
+          height = sym (height-kept W H c (rest s nx) r) ∙ (rw here at g.height);
+          kept = append_assoc ks (c ∷ []) _ ∙ ap (λ (l : List Command). ks ++ l) (sym (kept-kept W H c (rest s nx) r)) ∙ (rw here at g.kept);
+          dropped = ap (λ (l : List Dropped). ds ++ l) (sym (dropped-kept W H c (rest s nx) r k)) ∙ (rw here at g.dropped);
+          all = omega (arith, length-append ks (c ∷ []), g.all);
+          fits = after-fits W H c r;
+        }
+
+    pub looked-dropped : (reason_of (paper_width s) H c ≡ done → ⊥) → Looked s (k + 1) nx H ks (ds ++ (record { place = k; reason = reason_of (paper_width s) H c } ∷ []))
+    looked-dropped r =
+        let W = paper_width s in
+        let d : Dropped = record { place = k; reason = reason_of W H c } in
+        record {
+          left = left-next s at g.left e;
+          count = omega (arith, one_more);
+          height = sym (height-dropped W H c (rest s nx) r) ∙ (rw here at g.height);
+          kept = ap (λ (l : List Command). ks ++ l) (sym (kept-dropped W H c (rest s nx) r)) ∙ (rw here at g.kept);
+          dropped = append_assoc ds (d ∷ []) _ ∙ ap (λ (l : List Dropped). ds ++ l) (sym (dropped-dropped W H c (rest s nx) r k)) ∙ (rw here at g.dropped);
+          all = omega (arith, length-append ds (d ∷ []), g.all);
+          fits = g.fits;
+        }
+
+  pub record Looked-all : Type 0 where
+    pub height : H ≡ job_height s
+    pub kept : ks ≡ kept_of s
+    pub dropped : ds ≡ job_dropped s
+
+  pub looked-end : End ≡ record_at s at → Looked-all
   unfolding height_from kept_from dropped_from
-  walk_end e =
-      let h : g.H ≡ job_height s = rw (rest_end s at e) at g.height in
-      let a : g.ks ≡ kept_of s = sym (append-nil g.ks) ∙ (rw (rest_end s at e) at g.kept) in
-      let b : g.ds ≡ job_dropped s = sym (append-nil g.ds) ∙ (rw (rest_end s at e) at g.dropped) in
-      rw (← h, ← a, ← b) g.own
-
-  module _ {kind st n nx : ℕ} (e : Record kind st n nx ≡ record_at s at) where
-    both-sound : (sound_command s kind st n ≡ true) × (rest_sound s nx ≡ true)
-    both-sound = and_both (sound_command s kind st n) (rest_sound s nx) (sym (sound-record s at e) ∙ g.sound)
-
-    pub walk-sound : sound_command s kind st n ≡ true
-    walk-sound = both-sound.0
-
-    one_more : g.k + suc (length (rest s nx)) ≤ most_commands
-    one_more = rw (rest-record s at e) at g.count
-
-    pub walk-few : g.k < most_commands
-    walk-few = omega (arith, one_more)
-
-    module _ {c : Command} (q : c ≡ command_at s kind st n) where
-      abbrev W : ℕ
-      W = paper_width s
-
-      -- the command's reason, and its line of the dropped list if it has one
-      abbrev why : ℕ
-      why = reason_of W g.H c
-
-      abbrev line : Dropped
-      line = record { place = g.k; reason = why }
-
-      here : rest s at ≡ c ∷ rest s nx
-      here = rest-record s at e ∙ rw (← q) refl
-
-      -- no height on the way is above the last
-      pub walk-reaches : next_height W g.H c ≤ job_height s
-      unfolding height_from
-      walk-reaches =
-          let h : height_from W g.H (c ∷ rest s nx) ≡ job_height s = rw here at g.height in
-          omega (arith, height-more W (next_height W g.H c) (rest s nx), h)
-
-      module _ {Own' : ℕ → ℕ → List Command → List Dropped → Type 0} where
-        walk_kept : why ≡ done → Own' (g.k + 1) (height_after g.H c) (g.ks ++ (c ∷ [])) g.ds → Walk s nx Own'
-        walk_kept r o =
-            record {
-              k = g.k + 1;
-              H = height_after g.H c;
-              ks = g.ks ++ (c ∷ []);
-              ds = g.ds;
-              sound = both-sound.1;
-              count = omega (arith, one_more);
-              height = sym (height-kept W g.H c (rest s nx) r) ∙ (rw here at g.height);
-              kept = append_assoc g.ks (c ∷ []) _ ∙ ap (λ (l : List Command). g.ks ++ l) (sym (kept-kept W g.H c (rest s nx) r)) ∙ (rw here at g.kept);
-              dropped = ap (λ (l : List Dropped). g.ds ++ l) (sym (dropped-kept W g.H c (rest s nx) r g.k)) ∙ (rw here at g.dropped);
-              all = omega (arith, length-append g.ks (c ∷ []), g.all);
-              fits = after-fits W g.H c r;
-              own = o;
-            }
-
-        walk-dropped : (why ≡ done → ⊥) → Own' (g.k + 1) g.H g.ks (g.ds ++ (line ∷ [])) → Walk s nx Own'
-        walk-dropped r o =
-            record {
-              k = g.k + 1;
-              H = g.H;
-              ks = g.ks;
-              ds = g.ds ++ (line ∷ []);
-              sound = both-sound.1;
-              count = omega (arith, one_more);
-              height = sym (height-dropped W g.H c (rest s nx) r) ∙ (rw here at g.height);
-              kept = ap (λ (l : List Command). g.ks ++ l) (sym (kept-dropped W g.H c (rest s nx) r)) ∙ (rw here at g.kept);
-              dropped = append_assoc g.ds (line ∷ []) _ ∙ ap (λ (l : List Dropped). g.ds ++ l) (sym (dropped-dropped W g.H c (rest s nx) r g.k)) ∙ (rw here at g.dropped);
-              all = omega (arith, length-append g.ds (line ∷ []), g.all);
-              fits = g.fits;
-              own = o;
-            }
-
-        -- the command is kept or dropped
-        pub walk-next : (why ≡ done → Own' (g.k + 1) (height_after g.H c) (g.ks ++ (c ∷ [])) g.ds)
-            → ((why ≡ done → ⊥) → Own' (g.k + 1) g.H g.ks (g.ds ++ (line ∷ []))) → Walk s nx Own'
-        walk-next keep leave = by (eqb why done) refl
-          where
-            by : (t : Bool) → eqb why done ≡ t → Walk s nx Own'
-            by true z = walk_kept (eqb-true _ _ z) (keep (eqb-true _ _ z))
-            by false z = walk-dropped (eqb-false _ _ z) (leave (eqb-false _ _ z))
+  looked-end e =
+      record {
+        height = rw (rest_end s at e) at g.height;
+        kept = sym (append-nil ks) ∙ (rw (rest_end s at e) at g.kept);
+        dropped = sym (append-nil ds) ∙ (rw (rest_end s at e) at g.dropped);
+      }

@@ -1,5 +1,5 @@
 -- Sound jobs and their commands: 01, "Jobs".
-use Rattle.std.specs.Prelude.{ℕ, ◌+◌, ◌-◌, List, [], ◌∷◌, Bool, true, false, ◌&&◌, leb, eqb, if◌then◌else◌, ◌≤◌, length}
+use Rattle.std.specs.Prelude.{ℕ, ◌+◌, ◌-◌, List, [], ◌∷◌, Bool, true, false, ◌&&◌, leb, eqb, if◌then◌else◌}
 use Rattle.numbers.specs.Numbers.{limit}
 use Rattle.colour.specs.declared.RGBA.{RGBA}
 use Rattle.job.specs.declared.commands.Command.{Command}
@@ -125,23 +125,3 @@ after_paper (rec kind at n rest) = rest
 
 unfoldable pub commands : List ℕ → List Command
 commands s = commands_in s (after_paper (records s 0))
-
--- ---- what every command of a sound job keeps
-
--- 0 where there is none
-unfoldable pub mode_of : Command → ℕ
-mode_of (Rectangle x y w h c mode) = mode
-mode_of (Image x y w h sx sy c mode start size) = mode
-mode_of (Margin m) = 0
-mode_of (Flip x y w h) = 0
-
--- an image's bit rows lie in the job's bytes s
-unfoldable pub Inside : List ℕ → Command → Type 0
-Inside s (Rectangle x y w h c mode) = Unit {0}
-Inside s (Image x y w h sx sy c mode start size) = start + size ≤ length s
-Inside s (Margin m) = Unit {0}
-Inside s (Flip x y w h) = Unit {0}
-
-pub record Held (s : List ℕ) (c : Command) : Type 0 where
-  pub mode : mode_of c ≤ 1
-  pub inside : Inside s c

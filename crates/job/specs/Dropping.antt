@@ -1,7 +1,7 @@
 -- What a job is refused for, and what its commands are dropped for: 01, "Jobs". A run starts at height 0 with growth on; W is the paper's width and H the height so far.
-use Rattle.std.specs.Prelude.{ℕ, ◌+◌, ◌-◌, ◌*◌, max, List, [], ◌∷◌, ◌++◌, Bool, true, not, length, replicate, ltb, eqb, if◌then◌else◌, set}
+use Rattle.std.specs.Prelude.{ℕ, ◌+◌, ◌-◌, ◌*◌, max, List, [], ◌∷◌, ◌++◌, Bool, true, not, length, replicate, ltb, eqb, if◌then◌else◌}
 use Rattle.numbers.specs.Numbers.{done, too_large, wrong_length, bad_job, too_long}
-use Rattle.refusals.specs.Refusals.{tall_refusal, side_refusal, off_refusal, across_refusal, empty_refusal, first_of}
+use Rattle.refusals.specs.Refusals.{first, tall_refusal, side_refusal, off_refusal, across_refusal, empty_refusal}
 use Rattle.images.specs.declared.formats.Format.TheVariants.{Bits}
 use Rattle.images.specs.Formats.{bytes_of}
 use Rattle.images.specs.Stretching.{factor, is_large}
@@ -9,7 +9,6 @@ use Rattle.job.specs.declared.commands.Command.{Command}
 use Rattle.job.specs.declared.commands.Command.TheVariants.{Rectangle, Image, Margin, Flip}
 use Rattle.job.specs.declared.dropping.Dropped.{Dropped}
 use Rattle.job.specs.Commands.{sound, paper_width, commands}
-use Rattle.job.specs.declared.dropping.DroppedList.{DroppedList}
 
 -- ---- a job: order 11, 12
 
@@ -17,17 +16,17 @@ abbrev pub most_commands : ℕ
 most_commands = 64
 
 -- 11, 12, of bytes that keep the job rules or do not, and the commands cs that they hold
-unfoldable pub job_number : Bool → List Command → ℕ
-job_number is_sound cs = if not is_sound then bad_job else if ltb most_commands (length cs) then too_long else done
+unfoldable pub number_of : Bool → List Command → ℕ
+number_of is_sound cs = if not is_sound then bad_job else if ltb most_commands (length cs) then too_long else done
 
 unfoldable pub job_refusal : List ℕ → ℕ
-job_refusal s = job_number (sound s) (commands s)
+job_refusal s = number_of (sound s) (commands s)
 
 -- ---- a command
 
 -- a put of w·h pixels at (x, y): 2, 5, 8. With all its pixels and growth on it is never 6 or 7
 unfoldable pub put_reason : ℕ → ℕ → ℕ → ℕ → ℕ → ℕ → ℕ
-put_reason W H x y w h = first_of (side_refusal w h) (first_of (off_refusal W H true x y) (tall_refusal (max H (y + h))))
+put_reason W H x y w h = first (side_refusal w h) (first (off_refusal W H true x y) (tall_refusal (max H (y + h))))
 
 -- an image of w by h dots in `size` bytes of bit rows, stretched fx and fy times: its decoding's 2, 3 before its put's
 unfoldable pub image_reason : ℕ → ℕ → ℕ → ℕ → ℕ → ℕ → ℕ → ℕ → ℕ → ℕ
@@ -38,7 +37,7 @@ image_reason W H x y w h fx fy size =
 
 -- a flip: 10, 5, 8
 unfoldable pub flip_reason : ℕ → ℕ → ℕ → ℕ → ℕ → ℕ → ℕ
-flip_reason W H x y w h = first_of (empty_refusal w h) (first_of (across_refusal W x w) (tall_refusal (max H (y + h))))
+flip_reason W H x y w h = first (empty_refusal w h) (first (across_refusal W x w) (tall_refusal (max H (y + h))))
 
 -- the number for which a command is dropped, or 0. A margin: 8
 unfoldable pub reason_of : ℕ → ℕ → Command → ℕ
@@ -97,11 +96,3 @@ no_dropped = record { place = 0; reason = 0 }
 
 unfoldable pub filled_up : {A : Type 0} → A → List A → List A
 filled_up none l = l ++ replicate (most_commands - length l) none
-
--- the dropped commands ds
-abbrev pub dropped_list : List Dropped → DroppedList
-dropped_list ds = record { count = length ds; list = filled_up no_dropped ds }
-
--- the command of place k dropped too, for `why`
-abbrev pub also_dropped : DroppedList → ℕ → ℕ → DroppedList
-also_dropped v k why = record { count = v.count + 1; list = set v.list v.count (record { place = k; reason = why }) }

@@ -16,21 +16,21 @@ fn join4(a: u8, b: u8, c: u8, d: u8) -> u32
     a as u32 + b as u32 * 256 + c as u32 * 65536 + d as u32 * 16777216
 }
 
-pub(crate) fn read_u16(s: &[u8], at: usize) -> u16
+pub fn read_u16(s: &[u8], at: usize) -> u16
     requires { at + 2 ≤ length s.now }
     ensures { result ≡ le16 s.now at }
 {
     join2(s[at], s[at + 1])
 }
 
-pub(crate) fn read_u32(s: &[u8], at: usize) -> u32
+pub fn read_u32(s: &[u8], at: usize) -> u32
     requires { at + 4 ≤ length s.now }
     ensures { result ≡ le32 s.now at }
 {
     join4(s[at], s[at + 1], s[at + 2], s[at + 3])
 }
 
-pub(crate) fn read_rgba(s: &[u8], at: usize) -> RGBA
+pub fn read_rgba(s: &[u8], at: usize) -> RGBA
     requires { at + 4 ≤ length s.now }
     ensures { result ≡ rgba_at s.now at }
 {

@@ -1,14 +1,14 @@
 // What a command is dropped for, from the paper's width, the height so far and the command's own
-// numbers; the list of those dropped; and the height after one that is kept.
-ghost use Rattle.std.specs.Prelude.{◌≡◌, ◌+◌, ◌≤◌, max, [], ◌<◌};
+// numbers, and the height after one that is kept.
+ghost use Rattle.std.specs.Prelude.{◌≡◌, ◌+◌, ◌≤◌, max};
 ghost use Rattle.numbers.specs.Numbers.{limit};
 ghost use Rattle.images.specs.Stretching.{factor};
-ghost use Rattle.job.specs.Dropping.{put_reason, image_reason, flip_reason, reason_of, height_after, most_commands, dropped_list, also_dropped};
+ghost use Rattle.job.specs.Dropping.{put_reason, image_reason, flip_reason, reason_of, height_after};
 
 use super::commands::Command;
 use images::{Format, bytes_of, factor_of, is_large};
 use numbers::{TOO_LARGE, WRONG_LENGTH, larger};
-use refusals::{across_refusal, empty_refusal, first_of, off_refusal, side_refusal, tall_refusal};
+use refusals::{across_refusal, empty_refusal, first, off_refusal, side_refusal, tall_refusal};
 
 // A dropped command: the first after the paper has place 0.
 #[repr(C)]
@@ -16,39 +16,6 @@ use refusals::{across_refusal, empty_refusal, first_of, off_refusal, side_refusa
 pub struct Dropped {
     pub place: u32,
     pub reason: u8,
-}
-
-// The dropped commands are the first `count`; all other places are zero.
-#[repr(C)]
-#[derive(Clone, Copy)]
-pub struct DroppedList {
-    pub count: usize,
-    pub list: [Dropped; 64],
-}
-
-impl DroppedList {
-    pub fn none() -> DroppedList
-        ensures { result ≡ dropped_list [] }
-    {
-        DroppedList {
-            count: 0,
-            list: [Dropped {
-                place: 0,
-                reason: 0,
-            }; 64],
-        }
-    }
-
-    pub fn push(self, place: u32, reason: u8) -> DroppedList
-        requires { self.count < most_commands }
-        ensures { result ≡ also_dropped self place reason }
-    {
-        let mut v = self;
-        let n = v.count;
-        v.list[n] = Dropped { place, reason };
-        v.count = n + 1;
-        v
-    }
 }
 
 // The height once an area of h rows from y on is there. A sum of two u32 fits a usize.
@@ -61,11 +28,11 @@ fn reached(height: u32, y: u32, h: u32) -> usize
 fn put_reason(width: u32, height: u32, x: u32, y: u32, w: u32, h: u32) -> u8
     ensures { result ≡ put_reason width height x y w h }
 {
-    let place = first_of(
+    let place = first(
         off_refusal(width, height, true, x, y),
         tall_refusal(reached(height, y, h)),
     );
-    first_of(side_refusal(w, h), place)
+    first(side_refusal(w, h), place)
 }
 
 fn image_reason(
@@ -95,11 +62,11 @@ fn image_reason(
 fn flip_reason(width: u32, height: u32, x: u32, y: u32, w: u32, h: u32) -> u8
     ensures { result ≡ flip_reason width height x y w h }
 {
-    let place = first_of(
+    let place = first(
         across_refusal(width, x, w),
         tall_refusal(reached(height, y, h)),
     );
-    first_of(empty_refusal(w, h), place)
+    first(empty_refusal(w, h), place)
 }
 
 pub fn command_reason(width: u32, height: u32, c: Command) -> u8

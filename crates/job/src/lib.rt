@@ -11,11 +11,12 @@ mod records;
 ghost use Rattle.std.specs.Prelude.{◌≡◌, ◌≤◌, length};
 ghost use Rattle.job.specs.Records.{records};
 ghost use Rattle.job.specs.Commands.{sound_commands, commands_in};
-ghost use Rattle.job.specs.Dropping.{job_refusal, job_number};
+ghost use Rattle.job.specs.Dropping.{number_of, job_refusal};
 
+pub use bytes::{read_rgba, read_u16, read_u32};
 pub use commands::{Command, command_at, paper_color, paper_width};
 use commands::{sound_command, sound_paper};
-pub use dropping::{Dropped, DroppedList, command_reason, height_after};
+pub use dropping::{Dropped, command_reason, height_after};
 use kinds::MOST_COMMANDS;
 use numbers::{BAD_JOB, DONE, TOO_LONG};
 pub use records::{Rec, next_record};
@@ -23,7 +24,7 @@ pub use records::{Rec, next_record};
 // The number that the records from `at` on give, all of which are to be commands.
 fn rest_refusal(s: &[u8], at: usize) -> u8
     requires { at ≤ length s.now }
-    ensures { result ≡ job_number (sound_commands s.now (records s.now at)) (commands_in s.now (records s.now at)) }
+    ensures { result ≡ number_of (sound_commands s.now (records s.now at)) (commands_in s.now (records s.now at)) }
 {
     let mut place = at;
     let mut count: usize = 0;

@@ -7,7 +7,7 @@ use native.Mathlib.Nat.{add-zero, zero-add}
 use native.Mathlib.Numerals.{add-one}
 use native.Mathlib.Omega.{arith}
 use borrow.Author.Tests.{lt-ltb, le-ltb, ltb-false}
-use lib.ListN.{length, get_or, set, take, drop, length-append, length-drop}
+use lib.ListN.{length, get_or, set, take, drop, length-append, length-drop, length-set}
 use lib.Seq.{sets, sets-eq, length-sets, take-suc, take-length, length-take-le}
 use lib.Dec.{ltb}
 use Rattle.numbers.specs.Numbers.{done, no_room}
@@ -53,26 +53,26 @@ module _ (w : List ℕ) (at : ℕ) (l : List ℕ) where
         let e : i ≡ length w = omega (arith, c.upto) in
         (e, c.sofar ∙ ap (sets l at) (ap (λ (k : ℕ). take k w) e ∙ take-length w))
 
--- ---- a line, part by part: t stands in m from place `from` on
+-- ---- a line, part by part: t stands in m from the buffer's start on
 
-pub record Begun (from : ℕ) (t l m : List ℕ) (at : ℕ) : Type 0 where
-  pub place : at ≡ from + length t
+pub record Begun (t l m : List ℕ) (at : ℕ) : Type 0 where
+  pub place : at ≡ length t
   pub same : length m ≡ length l
-  pub sofar : m ≡ sets l from t
+  pub sofar : m ≡ sets l 0 t
 
-pub begun-none : (from : ℕ) (l : List ℕ) → Begun from [] l l from
-begun-none from l = record { place = sym (add-zero from); same = refl; sofar = refl }
+pub begun-none : (l : List ℕ) → Begun [] l l 0
+begun-none l = record { place = refl; same = refl; sofar = refl }
 
-pub begun_more : {from : ℕ} {t l m : List ℕ} {at : ℕ} → Begun from t l m at → (u : List ℕ) {k : List ℕ} {next : ℕ} → next ≡ at + length u → k ≡ sets m at u → Begun from (t ++ u) l k next
-begun_more {from} {t} {l} {m} {at} b u en ek =
+pub begun_more : {t l m : List ℕ} {at : ℕ} → Begun t l m at → (u : List ℕ) {k : List ℕ} {next : ℕ} → next ≡ at + length u → k ≡ sets m at u → Begun (t ++ u) l k next
+begun_more {t} {l} {m} {at} b u en ek =
     record {
       place = omega (arith, en, b.place, length-append t u);
       same = ap length ek ∙ length-sets m at u ∙ b.same;
-      sofar = ek ∙ ap (λ (k : List ℕ). sets k at u) b.sofar ∙ ap (λ (k : ℕ). sets (sets l from t) k u) b.place ∙ sets_more l from t u;
+      sofar = ek ∙ ap (λ (k : List ℕ). sets k at u) b.sofar ∙ ap (λ (k : ℕ). sets (sets l 0 t) k u) (omega (arith, b.place)) ∙ sets_more l 0 t u;
     }
 
-pub begun-end : {from : ℕ} {t l m : List ℕ} {at : ℕ} → Begun from t l m at → Begun from (t ++ (newline ∷ [])) l (set m at newline) (at + 1)
-begun-end b = begun_more b (newline ∷ []) refl refl
+pub begun-same : {t l m : List ℕ} {at : ℕ} → Begun t l m at → length (set m at newline) ≡ length l
+begun-same {t} {l} {m} {at} b = length-set m at newline ∙ b.same
 
 -- ---- the answer and the buffer, for a text of `size` bytes
 
@@ -81,11 +81,12 @@ module _ (t l : List ℕ) {size : ℕ} (e : size ≡ length t) where
   unfolding text_given text_on
   line_refused h = let s = lt-ltb (length l) (length t) (omega arith) in (rw s, rw s)
 
-  pub line-put : size ≤ length l → {u m : List ℕ} {at : ℕ} → Begun 0 u l m at → t ≡ u ++ (newline ∷ []) → (◌≡◌ {A = Written} (record { number = done; size = size }) (text_given t (length l))) × (set m at newline ≡ text_on t l)
+  pub line-put : size ≤ length l → {u m : List ℕ} {at : ℕ} → Begun u l m at → t ≡ u ++ (newline ∷ []) → (◌≡◌ {A = Written} (record { number = done; size = size }) (text_given t (length l))) × (set m at newline ≡ text_on t l)
   unfolding text_given text_on
   line-put h {u} {m} {at} b et =
       let s = le-ltb (length l) (length t) (omega arith) in
-      (rw (s, e), rw s ((begun-end b).sofar ∙ ap (sets l 0) (sym et) ∙ sets-eq t l 0 (omega arith) ∙ ap (λ (k : ℕ). t ++ drop k l) (zero-add (length t))))
+      let w : Begun (u ++ (newline ∷ [])) l (set m at newline) (at + 1) = begun_more b (newline ∷ []) refl refl in
+      (rw (s, e), rw s (w.sofar ∙ ap (sets l 0) (sym et) ∙ sets-eq t l 0 (omega arith) ∙ ap (λ (k : ℕ). t ++ drop k l) (zero-add (length t))))
 
 -- for callers: what is answered stays in the buffer
 pub text-inside : (t l : List ℕ) {w : Written} {m : List ℕ} → (w ≡ text_given t (length l)) × (m ≡ text_on t l) → (w.size ≤ length l) × (length m ≡ length l)

@@ -4,11 +4,11 @@
 mod writing;
 
 ghost use Rattle.std.specs.Prelude.{◌≡◌, length};
-ghost use Rattle.listing.specs.Listing.{paper_line, refused_line, text_on, text_given, listed, first_line, lines_in, lines_given};
+ghost use Rattle.listing.specs.Listing.{paper_line, row_line, refused_line, text_on, text_given, listed, first_line};
 
 use numbers::{DONE, NO_ROOM};
-use plan::{Plan, Translated, translate};
-use writing::{digits_of, put_part, put_row, row_size};
+use plan::{Translated, translate};
+use writing::{digits_of, put_part};
 
 // The most bytes of a job that is listed.
 pub const MOST_BYTES: usize = 32768;
@@ -78,39 +78,24 @@ pub fn first_line(t: Translated, out: &mut [u8]) -> Written
         return refused_line(t.number, out);
     }
     let plan = t.plan;
-    paper_line(plan.width, plan.height, plan.dropped.count, out)
+    paper_line(plan.width, plan.height, plan.dropped_count, out)
 }
 
-// What is told of a block: how many bytes of it are filled with lines, and the row after them.
-#[repr(C)]
-#[derive(Clone, Copy)]
-pub struct Filled {
-    pub size: usize,
-    pub next: u32,
-}
-
-// The dots of one row: four bytes each, and a plan that keeps its rules is at most 16,384 wide.
-const ROW_BYTES: usize = 65536;
-
-// The lines of the rows from row `row` on, as many as the block has room for. Only one row's dots are
-// held.
-pub fn row_lines(plan: Plan, row: u32, data: &[u8], block: &mut [u8]) -> Filled
-    ensures value { result ≡ lines_given «data».now plan row (length block.old) }
-    ensures block_after { block.new ≡ text_on (lines_in «data».now plan row (length block.old)) block.old }
+pub fn row_line(row: u32, ink: u32, out: &mut [u8]) -> Written
+    ensures value { result ≡ text_given (row_line row ink) (length out.old) }
+    ensures out_after { out.new ≡ text_on (row_line row ink) out.old }
 {
-    let mut line = [0u8; ROW_BYTES];
-    let mut size = 0;
-    let mut next = row;
-    loop {
-        let answer = rows::row(plan, next, data, &mut line);
-        if answer.number != DONE {
-            return Filled { size, next };
-        }
-        let more = row_size(next, answer.ink);
-        if block.len() - size < more {
-            return Filled { size, next };
-        }
-        size = put_row(next, answer.ink, size, block);
-        next += 1;
+    let n = row as usize;
+    let k = ink as usize;
+    let size = 10 + digits_of(n) + digits_of(k);
+    if out.len() < size {
+        return Written {
+            number: NO_ROOM,
+            size: 0,
+        };
     }
+    let a = put_part(b"row ", n, 0, out);
+    let b = put_part(b" ink ", k, a, out);
+    out[b] = b'\n';
+    Written { number: DONE, size }
 }

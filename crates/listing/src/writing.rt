@@ -2,9 +2,9 @@
 // answers the place past it.
 ghost use Rattle.std.specs.Prelude.{◌≡◌, ◌++◌, ◌+◌, ◌≤◌, length};
 ghost use Rattle.std.proofs.lemmas.List.Edits.{sets};
-ghost use Rattle.listing.specs.Listing.{digits, row_line};
+ghost use Rattle.listing.specs.Listing.{digits};
 
-pub(crate) fn digits_of(n: usize) -> usize
+pub fn digits_of(n: usize) -> usize
     ensures { (result ≡ length (digits n)) × (result ≤ 20) }
 {
     let mut count = 1;
@@ -48,29 +48,11 @@ fn put_number(n: usize, at: usize, out: &mut [u8]) -> usize
 }
 
 // A word, and a number after it.
-pub(crate) fn put_part(word: &[u8], n: usize, at: usize, out: &mut [u8]) -> usize
+pub fn put_part(word: &[u8], n: usize, at: usize, out: &mut [u8]) -> usize
     requires { at + length (word.now ++ digits n) ≤ length out.old }
     ensures value { result ≡ at + length (word.now ++ digits n) }
     ensures out_after { out.new ≡ sets out.old at (word.now ++ digits n) }
 {
     let next = put_word(word, at, out);
     put_number(n, next, out)
-}
-
-// The words and the newline of a row's line, and then the digits.
-pub(crate) fn row_size(row: u32, ink: u32) -> usize
-    ensures { result ≡ length (row_line row ink) }
-{
-    10 + digits_of(row as usize) + digits_of(ink as usize)
-}
-
-pub(crate) fn put_row(row: u32, ink: u32, at: usize, out: &mut [u8]) -> usize
-    requires { at + length (row_line row ink) ≤ length out.old }
-    ensures value { result ≡ at + length (row_line row ink) }
-    ensures out_after { out.new ≡ sets out.old at (row_line row ink) }
-{
-    let a = put_part(b"row ", row as usize, at, out);
-    let b = put_part(b" ink ", ink as usize, a, out);
-    out[b] = b'\n';
-    b + 1
 }

@@ -1,6 +1,8 @@
 // Lists stored jobs, one after another, as strip does; a program has one stored input of its own.
 #![tactic(auto)]
 
+ghost use Rattle.std.specs.Prelude.{◌≤◌, length};
+
 use input::read_full;
 use listing::MOST_BYTES;
 use plan::Plan;
@@ -27,24 +29,34 @@ fn show(rt: &HostRuntime, path: &str) -> io::Result<()> {
 }
 
 fn list(rt: &HostRuntime, job: &[u8]) -> io::Result<()> {
-    let mut block = [0u8; 65536];
+    let mut line = [0u8; 65536];
+    let mut text = [0u8; 4096];
     let t = listing::list_job(job);
-    let first = listing::first_line(t, &mut block);
-    let n = first.size;
-    rt.write_all(&block[..n])?;
+    let first = listing::first_line(t, &mut text);
+    tell(rt, &text, first.size)?;
     let plan = t.plan;
-    list_rows(rt, plan, job, &mut block)
+    list_rows(rt, plan, job, &mut line, &mut text)
 }
 
-fn list_rows(rt: &HostRuntime, plan: Plan, job: &[u8], block: &mut [u8]) -> io::Result<()> {
+fn list_rows(
+    rt: &HostRuntime,
+    plan: Plan,
+    job: &[u8],
+    line: &mut [u8],
+    text: &mut [u8],
+) -> io::Result<()> {
     let mut row = 0;
-    loop {
-        let lines = listing::row_lines(plan, row, job, block);
-        let n = lines.size;
-        if n == 0 {
-            return Ok(());
-        }
-        rt.write_all(&block[..n])?;
-        row = lines.next;
+    while row < plan.height {
+        let answer = rows::row(plan, row, job, line);
+        let next = listing::row_line(row, answer.ink, text);
+        tell(rt, text, next.size)?;
+        row += 1;
     }
+    Ok(())
+}
+
+fn tell(rt: &HostRuntime, text: &[u8], n: usize) -> io::Result<()>
+    requires { n ≤ length text.now }
+{
+    rt.write_all(&text[..n])
 }

@@ -1,2 +1,2 @@
--- What the step of lists says. The entry's contract is by the definitions of rows.
+-- What the steps of lists say. The entry's contract is by the definitions of rows.
 pub mod Steps

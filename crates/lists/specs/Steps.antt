@@ -1,12 +1,7 @@
--- The plan of a lent list, entry by entry.
-use Rattle.std.specs.Prelude.{if◌then◌else◌, ◌+◌, set, ltb}
-use Rattle.job.specs.Dropping.{most_commands}
-use Rattle.entries.specs.declared.Entry.{Entry}
-use Rattle.plan.specs.declared.Plan.{Plan}
-use Rattle.plan.specs.Steps.{with_entries}
+-- Inner steps of the row of a lent list.
+use Rattle.std.specs.Prelude.{ℕ, eqb, if◌then◌else◌}
+use Rattle.numbers.specs.Numbers.{done}
 
--- one entry more, in its place; past the 64th there is none, and the count says that they are too many
-unfoldable pub added : Plan → Entry → Plan
-added p e =
-    if ltb p.count most_commands then with_entries p p.height (p.count + 1) (set p.entries p.count e)
-    else with_entries p p.height (most_commands + 1) p.entries
+-- m where the row has number 0, and l where it is refused
+abbrev pub unless_refused : {A : Type 0} → ℕ → A → A → A
+unless_refused number m l = if eqb number done then m else l

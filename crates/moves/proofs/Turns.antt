@@ -12,7 +12,7 @@ use Rattle.dots.proofs.Laws.{length-change, change-by, run_none, run-turn, withi
 use Rattle.dots.proofs.Blocks.{in_row}
 use Rattle.moves.specs.declared.turned.Turn.{Turn}
 use Rattle.moves.specs.declared.turned.Turn.TheVariants.{Quarter, Half, ThreeQuarters}
-use Rattle.moves.specs.Steps.{quarter, counted_along}
+use Rattle.moves.specs.Steps.{quarter, along}
 use Rattle.moves.specs.Moves.{column_to, row_to, turned_wide, turned_tall, column_from, row_from, turned_at, turned_dot, turned_on}
 use Rattle.moves.proofs.Rects.{factor}
 
@@ -21,16 +21,6 @@ unfolding turned_wide
 sides Quarter w h = refl
 sides Half w h = mul_comm h w
 sides ThreeQuarters w h = refl
-
--- by a quarter, to the right or to the left, width and height change places
-pub quarter-wide : (left : Bool) (w h : ℕ) → turned_wide (quarter left) w h ≡ h
-unfolding quarter turned_wide
-quarter-wide false w h = refl
-quarter-wide true w h = refl
-
-pub half-wide : (w h : ℕ) → turned_wide Half w h ≡ w
-unfolding turned_wide
-half-wide w h = refl
 
 -- a dot of the source goes to a dot of the turned picture
 pub column-out : (by : Turn) (w h x y : ℕ) → x < w → y < h → column_to by w h x y < turned_wide by w h
@@ -79,18 +69,18 @@ dot-turned by w h src r {c} a d =
 
 -- ---- a quarter turn to the right or to the left: column x of row y goes to column c of row r
 
-along-in : (n i : ℕ) (back : Bool) → i < n → counted_along n i back < n
-unfolding counted_along
+along-in : (n i : ℕ) (back : Bool) → i < n → along n i back < n
+unfolding along
 along-in n i false h = h
 along-in n i true h = omega arith
 
-pub along-reads : (w h c r : ℕ) (s t : Bool) {x y n : ℕ} → c < h → r < w → x ≡ counted_along w r s → y ≡ counted_along h c t → w * h * 4 ≤ n → (y * w + x) * 4 + 4 ≤ n
+pub along-reads : (w h c r : ℕ) (s t : Bool) {x y n : ℕ} → c < h → r < w → x ≡ along w r s → y ≡ along h c t → w * h * 4 ≤ n → (y * w + x) * 4 + 4 ≤ n
 along-reads w h c r s t a b ex ey room =
     rw (ex, ey) (dot-room w h (along-in w r s b) (along-in h c t a) (omega (arith, mul_comm w h)))
 
-pub quarter-dot : (w h : ℕ) (left : Bool) (src : List ℕ) (c r : ℕ) {x y : ℕ} → c < h → x ≡ counted_along w r left → y ≡ counted_along h c (not left)
+pub quarter-dot : (w h : ℕ) (left : Bool) (src : List ℕ) (c r : ℕ) {x y : ℕ} → c < h → x ≡ along w r left → y ≡ along h c (not left)
     → (d : RGBA) → dot_at src (y * w + x) ≡ turned_dot (quarter left) w h src (r * h + c) d
-unfolding quarter counted_along turned_wide column_from row_from
+unfolding quarter along turned_wide column_from row_from
 quarter-dot w h false src c r a ex ey d = rw (ex, ey) (dot-turned Quarter w h src r a d)
 quarter-dot w h true src c r a ex ey d = rw (ex, ey) (dot-turned ThreeQuarters w h src r a d)
 

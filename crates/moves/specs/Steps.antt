@@ -9,9 +9,9 @@ unfoldable pub quarter : Bool → Turn
 quarter false = Quarter
 quarter true = ThreeQuarters
 
--- place i of a side of n, counted along it, or back from its end
-unfoldable pub counted_along : ℕ → ℕ → Bool → ℕ
-counted_along n i back = if back then n - 1 - i else i
+-- place i along a side of n, or as many places back from its end
+unfoldable pub along : ℕ → ℕ → Bool → ℕ
+along n i back = if back then n - 1 - i else i
 
 -- dot i of a picture `wide` dots wide is in the columns from c to c' and the rows from r to r'
 unfoldable pub in_rect : ℕ → ℕ → ℕ → ℕ → ℕ → ℕ → Bool

@@ -2,7 +2,7 @@
 ghost use Rattle.std.specs.Prelude.{◌≡◌, ◌+◌, ◌-◌, ◌*◌, ◌≤◌, ◌<◌, length};
 ghost use Rattle.dots.specs.Dots.{dot_at, change, within};
 ghost use Rattle.moves.specs.Moves.{turned_dot, turned_on};
-ghost use Rattle.moves.specs.Steps.{quarter, counted_along, in_rect};
+ghost use Rattle.moves.specs.Steps.{quarter, along, in_rect};
 
 use super::turned::Turn;
 use dots::{get_dot, load_dot, set_dot, store_dot};
@@ -23,7 +23,7 @@ fn turn_half(src: &[u8], n: usize, out: &mut [u8])
 
 fn along(n: usize, i: usize, back: bool) -> usize
     requires { i < n }
-    ensures { result ≡ counted_along n i back }
+    ensures { result ≡ along n i back }
 {
     if back {
         return n - 1 - i;

@@ -4,7 +4,7 @@ use mathlib.Core.Bool.{Bool, true, false, ◌||◌, true≢false}
 use mathlib.Core.Logic.{◌⊎◌, inl, inr, ⊎_elim}
 use mathlib.Core.List.{List}
 use Prim.Native.Nat.{ℕ, ◌+◌, ◌-◌, ◌*◌, ◌/◌, ◌%◌, ◌≤◌, ◌<◌}
-use native.Mathlib.Nat.{add-zero, mul_assoc}
+use native.Mathlib.Nat.{add-zero, mul_assoc, mul-le-mul}
 use native.Mathlib.Omega.{arith}
 use lib.Dec.{eqb}
 use lib.ListN.{length, get_or, set}
@@ -13,7 +13,7 @@ use Rattle.std.specs.Prelude.{if◌then◌else◌}
 use Rattle.colour.specs.declared.RGBA.{RGBA}
 use Rattle.colour.specs.Channel.{nearest, blend_byte}
 use Rattle.colour.specs.Colour.{rgba, white, blended, multiplied}
-use Rattle.colour.proofs.Laws.{rgba-eq, blend-byte-none, blend-byte-full, blended-none, blended-full, blended-some, multiplied-none, multiplied-some}
+use Rattle.colour.proofs.Laws.{rgba-eq, by-256, blend-byte-none, blend-byte-full, blended-none, blended-full, blended-some, multiplied-none, multiplied-some}
 use Rattle.dots.specs.Dots.{dot_at, chan, drawn}
 use Rattle.dots.proofs.Laws.{each-byte, byte_of, drawn-blended, drawn-multiplied}
 use Rattle.dots.proofs.Bytes.{Over, over_none, over-step, over-change}
@@ -23,7 +23,6 @@ use Rattle.pixels.specs.Pixels.{pixels_on}
 use Rattle.pixels.specs.Steps.{crisp, all_crisp, inks, alphas, spread_on, drawn_byte}
 use Rattle.pixels.proofs.Crispness.{all-crisp-at}
 use Rattle.pixels.proofs.Spread.{spread_at}
-use Rattle.dots.specs.Tables.{mixed}
 
 -- ---- one byte
 
@@ -36,10 +35,11 @@ unfolding drawn_byte
 byte-scaled s c a e er = rw e er
 
 -- at full alpha 16 bits do
-pub byte_full : {t : Bool} {r : ℕ} (s c a : ℕ) → t ≡ true → a ≡ 255 → r ≡ mixed c 128 s → r ≡ drawn_byte t s c a
-byte_full s c a e f er =
-    let whole : mixed c 128 s ≡ nearest (s * c * 255) 65025 = omega arith in
-    byte-scaled s c a e (er ∙ rw (f, ← mul_assoc s c 255) whole)
+pub byte_full : {t : Bool} {r : ℕ} (s c a : ℕ) → s ≤ 255 → c ≤ 255 → t ≡ true → a ≡ 255
+    → r ≡ (s * c + 128 + (s * c + 128) / 256) / 256 → r ≡ drawn_byte t s c a
+byte_full s c a S C e f er =
+    let whole : nearest (s * c) 255 ≡ nearest (s * c * 255) 65025 = omega arith in
+    byte-scaled s c a e (er ∙ by-256 (s * c) (mul-le-mul S C) ∙ rw (f, ← mul_assoc s c 255) whole)
 
 -- ---- the inks and alphas of one pixel
 

@@ -9,7 +9,7 @@ use colour::RGBA;
 use colour::channel::blend_channel;
 use dots::{load_dot, mix_byte, scale_byte, store_dot};
 
-fn inks_of(p: RGBA, multiply: bool) -> RGBA
+fn inks(p: RGBA, multiply: bool) -> RGBA
     ensures { result ≡ inks multiply p }
 {
     if multiply {
@@ -26,7 +26,7 @@ fn inks_of(p: RGBA, multiply: bool) -> RGBA
     p
 }
 
-fn alphas_of(p: RGBA, multiply: bool) -> RGBA
+fn alphas(p: RGBA, multiply: bool) -> RGBA
     ensures { result ≡ alphas multiply p }
 {
     if multiply {
@@ -68,8 +68,8 @@ fn spread(
     let mut i = 0;
     while i < count {
         let p = load_dot(pixels, from + i);
-        store_dot(ink, i, inks_of(p, multiply));
-        store_dot(alpha, i, alphas_of(p, multiply));
+        store_dot(ink, i, inks(p, multiply));
+        store_dot(alpha, i, alphas(p, multiply));
         i += 1;
     }
 }
@@ -116,7 +116,7 @@ fn draw_some(
 }
 
 // With `full` the pixels are multiplied, and all of them are clear or opaque.
-pub(crate) fn draw_bytes(
+pub fn draw_bytes(
     buf: &mut [u8],
     at: usize,
     count: usize,

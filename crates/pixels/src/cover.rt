@@ -8,7 +8,7 @@ use dots::{load_dot, store_dot};
 
 // The choice stands in the loop, and not in a function of its own, from which the compiler takes the
 // four bytes one by one.
-pub(crate) fn cover_each(buf: &mut [u8], at: usize, count: usize, pixels: &[u8], from: usize)
+pub fn cover_each(buf: &mut [u8], at: usize, count: usize, pixels: &[u8], from: usize)
     requires count_in_bounds { ((at + count) * 4 ≤ length buf.old) × ((from + count) * 4 ≤ length pixels.now) }
     requires count_value { all_crisp pixels.now from count ≡ true }
     ensures { buf.new ≡ pixels_on false pixels.now from at count buf.old }

@@ -33,7 +33,7 @@ fn crisp_piece(pixels: &[u8], from: usize, count: usize) -> bool
 // The pixels of a piece, after which it is asked whether to go on.
 const PIECE: usize = 32;
 
-pub(crate) fn all_crisp(pixels: &[u8], from: usize, count: usize) -> bool
+pub fn all_crisp(pixels: &[u8], from: usize, count: usize) -> bool
     requires { (from + count) * 4 ≤ length pixels.now }
     ensures { result ≡ all_crisp pixels.now from count }
 {

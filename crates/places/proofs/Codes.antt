@@ -9,8 +9,8 @@ use Rattle.numbers.specs.Numbers.{done}
 use Rattle.std.specs.Prelude.{if◌then◌else◌}
 use Rattle.colour.proofs.Tests.{and_both, neither}
 use Rattle.thermal_image.specs.declared.ThermalImage.{ThermalImage}
-use Rattle.refusals.specs.Refusals.{canvas_refusal, grow_refusal, first_of}
-use Rattle.refusals.proofs.Codes.{first-none, first_done, room-exact, side-exact, off-exact, across-exact, empty-exact}
+use Rattle.refusals.specs.Refusals.{first, canvas_refusal, grow_refusal}
+use Rattle.refusals.proofs.Codes.{first-none, first_done, room-done, side-done, off-done, across-done, empty-done}
 use Rattle.places.specs.Places.{cropped, crop_wide, crop_tall, result_refusal, place_refusal, tall_after, flips, image_tall, flip_tall, flip_refusal, border_refusal}
 use Rattle.places.specs.Steps.{Ready}
 
@@ -58,7 +58,7 @@ module _ (t : ThermalImage) (grow : t.auto_grow ≡ true) where
 
 -- ---- an order
 
-first-both : (a b : ℕ) → a ≡ done → b ≡ done → first_of a b ≡ done
+first-both : (a b : ℕ) → a ≡ done → b ≡ done → first a b ≡ done
 first-both a b e f = sym (first-none a b e) ∙ f
 
 -- a canvas with more rows that 8 and 1 let pass may grow to them
@@ -76,9 +76,9 @@ place-done t x y w h bytes rows n e more down =
     let a = first_done _ _ e in
     let b = first_done _ _ (first_done _ _ a.1).1 in
     let c = first_done _ _ (first_done _ _ b.1).1 in
-    let s = (side-exact w h).held b.0 in
+    let s = side-done w h b.0 in
     record {
-      on = ((off-exact t.width t.height t.auto_grow x y).held c.0).0;
+      on = off-done t.width t.height t.auto_grow x y c.0;
       wide = s.0;
       tall = s.1;
       more = more;
@@ -133,8 +133,8 @@ flip-done t x y w h n {rows} er e =
     let a = first_done _ _ e in
     let b = first_done _ _ a.1 in
     let c = first_done _ _ b.1 in
-    let s = (empty-exact w h).held b.0 in
-    let d = (across-exact t.width x w).held c.0 in
+    let s = empty-done w h b.0 in
+    let d = across-done t.width x w c.0 in
     record {
       on = omega arith;
       across = d;
@@ -147,5 +147,5 @@ pub border-done : (w h n : ℕ) → border_refusal w h n ≡ done → (0 < w) ×
 unfolding border_refusal
 border-done w h n e =
     let a = first_done _ _ (first_done _ _ e).1 in
-    let s = (empty-exact w h).held a.0 in
-    (s.0, s.1, omega (arith, (room-exact w h n).held a.1))
+    let s = empty-done w h a.0 in
+    (s.0, s.1, omega (arith, room-done w h n a.1))

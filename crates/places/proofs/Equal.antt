@@ -8,7 +8,7 @@ use lib.Dec.{ltb}
 use borrow.Author.Tests.{eq-eqb, lt-ltb, le-ltb}
 use Rattle.numbers.specs.Numbers.{done, short}
 use Rattle.std.specs.Prelude.{if◌then◌else◌}
-use Rattle.refusals.specs.Refusals.{canvas_refusal, side_refusal, off_refusal, first_of}
+use Rattle.refusals.specs.Refusals.{first, canvas_refusal, side_refusal, off_refusal}
 use Rattle.refusals.proofs.Codes.{first-none}
 use Rattle.thermal_image.specs.declared.ThermalImage.{ThermalImage}
 use Rattle.places.specs.Places.{cropped, crop_wide, crop_tall, tall_after, length_refusal, many_refusal, short_refusal, result_refusal, place_refusal, put_refusal, rect_refusal}
@@ -39,16 +39,16 @@ equal-short t x y w h = by (cropped t x y w) (crop_tall t x y w h) (crop-tall t 
 
 pub equal-refusal : (t : ThermalImage) (x y w h rows n : ℕ)
     → place_refusal t x y w h (4 * (w * h)) rows n
-    ≡ first_of (canvas_refusal t.width t.height n) (first_of (side_refusal w h) (first_of (off_refusal t.width t.height t.auto_grow x y) (result_refusal t.width rows n)))
+    ≡ first (canvas_refusal t.width t.height n) (first (side_refusal w h) (first (off_refusal t.width t.height t.auto_grow x y) (result_refusal t.width rows n)))
 unfolding place_refusal
 equal-refusal t x y w h rows n =
     let q : 4 * (w * h) / 4 ≡ w * h = omega arith in
     let off = off_refusal t.width t.height t.auto_grow x y in
     rw (q, equal-length (w * h), equal-many w h, equal-short t x y w h, ← first-none done (result_refusal t.width rows n) refl)
-    (rw (← first-none done (first_of off (result_refusal t.width rows n)) refl, ← first-none done (first_of (side_refusal w h) (first_of off (result_refusal t.width rows n))) refl))
+    (rw (← first-none done (first off (result_refusal t.width rows n)) refl, ← first-none done (first (side_refusal w h) (first off (result_refusal t.width rows n))) refl))
 
 -- what a rectangle on a sound canvas that grows is refused for: 2, 5, 8, 1
 pub rect-grown : (t : ThermalImage) → t.auto_grow ≡ true → (x y w h n : ℕ) → canvas_refusal t.width t.height n ≡ done
-    → rect_refusal t x y w h n ≡ first_of (side_refusal w h) (first_of (off_refusal t.width t.height true x y) (result_refusal t.width (max t.height (y + h)) n))
+    → rect_refusal t x y w h n ≡ first (side_refusal w h) (first (off_refusal t.width t.height true x y) (result_refusal t.width (max t.height (y + h)) n))
 unfolding rect_refusal put_refusal
 rect-grown t grow x y w h n e = equal-refusal t x y w h (tall_after t x y w h) n ∙ sym (first-none _ _ e) ∙ rw (tall-grown t grow x y w h, grow)

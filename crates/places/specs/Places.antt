@@ -1,7 +1,7 @@
 -- Where drawing lands on the canvas, and what it is refused for, by sizes and lengths alone: 01, "Canvas". t is a canvas, n the length of its buffer, and w by h what is drawn at (x, y).
 use Rattle.std.specs.Prelude.{ℕ, ◌+◌, ◌-◌, ◌*◌, ◌/◌, ◌%◌, min, max, Bool, not, ◌&&◌, ◌||◌, ltb, leb, eqb, if◌then◌else◌}
 use Rattle.numbers.specs.Numbers.{done, wrong_length, too_many, short}
-use Rattle.refusals.specs.Refusals.{canvas_refusal, tall_refusal, room_refusal, side_refusal, off_refusal, across_refusal, empty_refusal, first_of}
+use Rattle.refusals.specs.Refusals.{first, canvas_refusal, tall_refusal, room_refusal, side_refusal, off_refusal, across_refusal, empty_refusal}
 use Rattle.thermal_image.specs.declared.ThermalImage.{ThermalImage}
 
 -- ---- cropping
@@ -51,19 +51,19 @@ short_refusal t x y w h pixels =
 
 -- 8, 1: the canvas that results, W wide with that many rows
 unfoldable pub result_refusal : ℕ → ℕ → ℕ → ℕ
-result_refusal W rows n = first_of (tall_refusal rows) (room_refusal W rows n)
+result_refusal W rows n = first (tall_refusal rows) (room_refusal W rows n)
 
 -- ---- the orders
 
 -- the put's order, 9, 3, 2, 6, 5, 7, 8, 1, for a canvas that comes to have that many rows
 unfoldable pub place_refusal : ThermalImage → ℕ → ℕ → ℕ → ℕ → ℕ → ℕ → ℕ → ℕ
 place_refusal t x y w h bytes rows n =
-    first_of (canvas_refusal t.width t.height n)
-    (first_of (length_refusal bytes)
-    (first_of (side_refusal w h)
-    (first_of (many_refusal w h (bytes / 4))
-    (first_of (off_refusal t.width t.height t.auto_grow x y)
-    (first_of (short_refusal t x y w h (bytes / 4))
+    first (canvas_refusal t.width t.height n)
+    (first (length_refusal bytes)
+    (first (side_refusal w h)
+    (first (many_refusal w h (bytes / 4))
+    (first (off_refusal t.width t.height t.auto_grow x y)
+    (first (short_refusal t x y w h (bytes / 4))
     (result_refusal t.width rows n))))))
 
 -- a put of pixels
@@ -81,11 +81,11 @@ image_refusal upside t x y w h bytes n = place_refusal t x y w h bytes (image_ta
 -- a flip: 9, 10, 5, 8, 1
 unfoldable pub flip_refusal : ThermalImage → ℕ → ℕ → ℕ → ℕ → ℕ → ℕ
 flip_refusal t x y w h n =
-    first_of (canvas_refusal t.width t.height n)
-    (first_of (empty_refusal w h)
-    (first_of (across_refusal t.width x w)
+    first (canvas_refusal t.width t.height n)
+    (first (empty_refusal w h)
+    (first (across_refusal t.width x w)
     (result_refusal t.width (flip_tall t y h) n)))
 
 -- a border on a picture that fills the first 4·w·h bytes of a buffer: 2, 10, 1
 unfoldable pub border_refusal : ℕ → ℕ → ℕ → ℕ
-border_refusal w h n = first_of (side_refusal w h) (first_of (empty_refusal w h) (room_refusal w h n))
+border_refusal w h n = first (side_refusal w h) (first (empty_refusal w h) (room_refusal w h n))

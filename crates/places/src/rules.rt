@@ -6,8 +6,7 @@ ghost use Rattle.places.specs.Places.{length_refusal, many_refusal, short_refusa
 use super::sizes::{crop_pixels, cropped, flip_tall};
 use numbers::{DONE, SHORT, TOO_MANY, TOO_TALL, WRONG_LENGTH};
 use refusals::{
-    across_refusal, canvas_refusal, empty_refusal, first_of, off_refusal, room_refusal,
-    side_refusal,
+    across_refusal, canvas_refusal, empty_refusal, first, off_refusal, room_refusal, side_refusal,
 };
 use thermal_image::ThermalImage;
 
@@ -54,7 +53,7 @@ fn result_refusal(w: u32, rows: usize, n: usize) -> u8
     room_refusal(w, rows as u32, n)
 }
 
-// From the last number to the first, as every order here.
+// From the last number to the first.
 pub fn place_refusal(
     t: ThermalImage,
     x: u32,
@@ -67,38 +66,48 @@ pub fn place_refusal(
 ) -> u8
     ensures { result ≡ place_refusal t x y w h bytes rows n }
 {
-    let result = result_refusal(t.width, rows, n);
-    let short = first_of(short_refusal(t, x, y, w, h, bytes / 4), result);
-    let off = first_of(off_refusal(t.width, t.height, t.auto_grow, x, y), short);
-    let many = first_of(many_refusal(w, h, bytes / 4), off);
-    let side = first_of(side_refusal(w, h), many);
-    let length = first_of(length_refusal(bytes), side);
-    first_of(canvas_refusal(t.width, t.height, n), length)
+    let end = first(
+        short_refusal(t, x, y, w, h, bytes / 4),
+        result_refusal(t.width, rows, n),
+    );
+    let place = first(off_refusal(t.width, t.height, t.auto_grow, x, y), end);
+    let many = first(many_refusal(w, h, bytes / 4), place);
+    let pixels = first(length_refusal(bytes), first(side_refusal(w, h), many));
+    first(canvas_refusal(t.width, t.height, n), pixels)
 }
 
 // Of w·h equal pixels none is missing, and there are not too many.
 pub fn rect_refusal(t: ThermalImage, x: u32, y: u32, w: u32, h: u32, rows: usize, n: usize) -> u8
     ensures { result ≡ place_refusal t x y w h (4 * (w * h)) rows n }
 {
-    let result = result_refusal(t.width, rows, n);
-    let off = first_of(off_refusal(t.width, t.height, t.auto_grow, x, y), result);
-    let side = first_of(side_refusal(w, h), off);
-    first_of(canvas_refusal(t.width, t.height, n), side)
+    let place = first(
+        off_refusal(t.width, t.height, t.auto_grow, x, y),
+        result_refusal(t.width, rows, n),
+    );
+    first(
+        canvas_refusal(t.width, t.height, n),
+        first(side_refusal(w, h), place),
+    )
 }
 
 pub fn flip_refusal(t: ThermalImage, x: u32, y: u32, w: u32, h: u32, n: usize) -> u8
     ensures { result ≡ flip_refusal t x y w h n }
 {
-    let result = result_refusal(t.width, flip_tall(t, y, h), n);
-    let across = first_of(across_refusal(t.width, x, w), result);
-    let empty = first_of(empty_refusal(w, h), across);
-    first_of(canvas_refusal(t.width, t.height, n), empty)
+    let place = first(
+        across_refusal(t.width, x, w),
+        result_refusal(t.width, flip_tall(t, y, h), n),
+    );
+    first(
+        canvas_refusal(t.width, t.height, n),
+        first(empty_refusal(w, h), place),
+    )
 }
 
 pub fn border_refusal(w: u32, h: u32, n: usize) -> u8
     ensures { result ≡ border_refusal w h n }
 {
-    let room = room_refusal(w, h, n);
-    let empty = first_of(empty_refusal(w, h), room);
-    first_of(side_refusal(w, h), empty)
+    first(
+        side_refusal(w, h),
+        first(empty_refusal(w, h), room_refusal(w, h, n)),
+    )
 }

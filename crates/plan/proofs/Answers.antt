@@ -10,17 +10,16 @@ use Rattle.numbers.specs.Numbers.{done, not_translated}
 use Rattle.colour.specs.Colour.{blank}
 use Rattle.colour.specs.declared.RGBA.{RGBA}
 use Rattle.images.specs.Stretching.{factor}
-use Rattle.job.specs.declared.dropping.DroppedList.{DroppedList}
 use Rattle.job.specs.declared.commands.Command.{Command}
 use Rattle.job.specs.declared.commands.Command.TheVariants.{Rectangle, Image, Flip}
 use Rattle.job.specs.Commands.{commands}
-use Rattle.job.specs.Dropping.{reason_of, job_refusal, also_dropped}
+use Rattle.job.specs.Dropping.{reason_of, job_refusal}
 use Rattle.entries.specs.declared.Entry.{Entry}
 use Rattle.plan.specs.declared.Plan.{Plan}
 use Rattle.plan.specs.declared.Translated.{Translated}
 use Rattle.entries.specs.Entries.{rectangle_entry, image_entry}
 use Rattle.plan.specs.Plan.{lower, no_entry, plan_with, plan_of, has_flip, translate_refusal, translated}
-use Rattle.plan.specs.Steps.{lowered_entries, with_entries, with_dropped, pushed, planned, stepped}
+use Rattle.plan.specs.Steps.{lowered_entries, with_entries, pushed, left_out, planned, stepped}
 use Rattle.plan.proofs.Listed.{set-lowered}
 
 -- ---- an entry pushed
@@ -57,9 +56,9 @@ lower-step {p} p₀ h n m i e = rw (e, add-one, ← set-lowered m i p₀.entries
 -- ---- a step
 
 module _ (p : Plan) (k : ℕ) (d : Command) {why : ℕ} (e : why ≡ reason_of p.width p.height d) where
-  pub step-out : (why ≡ done → ⊥) → {ds : DroppedList} → ds ≡ also_dropped p.dropped k why → with_dropped p ds ≡ stepped p k d
+  pub step-out : (why ≡ done → ⊥) → {r : Plan} → r ≡ left_out p k why → r ≡ stepped p k d
   unfolding stepped
-  step-out n g = rw (g, ne_eqb (reason_of p.width p.height d) done (λ z. n (e ∙ z)), e)
+  step-out n g = g ∙ rw (ne_eqb (reason_of p.width p.height d) done (λ z. n (e ∙ z)), e)
 
   pub step_in : why ≡ done → {r : Plan} {d' : Command} → d ≡ d' → r ≡ planned p d' → r ≡ stepped p k d
   unfolding stepped

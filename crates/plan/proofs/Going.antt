@@ -8,25 +8,23 @@ use native.Mathlib.Omega.{arith}
 use borrow.Author.Tests.{eqb-true, eqb-false, eq-eqb, ne_eqb}
 use lib.Dec.{eqb}
 use lib.ListN.{length}
-use Rattle.numbers.specs.Numbers.{done}
 use Rattle.colour.specs.declared.RGBA.{RGBA}
 use Rattle.colour.proofs.Tests.{and_both, neither}
 use Rattle.images.specs.Stretching.{factor}
-use Rattle.job.specs.declared.records.Rec.TheVariants.{Record, End}
+use Rattle.job.specs.declared.records.Rec.TheVariants.{Record, Bad, End}
 use Rattle.job.specs.declared.dropping.Dropped.{Dropped}
 use Rattle.job.specs.declared.commands.Command.{Command}
 use Rattle.job.specs.declared.commands.Command.TheVariants.{Rectangle, Image, Margin, Flip}
 use Rattle.job.specs.Records.{record_at}
 use Rattle.job.specs.Commands.{rectangle_kind, image_kind, margin_kind, flip_kind, flip_size, sound_command, commands_start, paper_width, paper_color, command_at, commands}
-use Rattle.job.specs.Dropping.{reason_of, height_after, filled_up}
-use Rattle.job.proofs.Folds.{also-dropped}
-use Rattle.job.proofs.Walk.{rest, rest-record, rest_end, Good, Walk, walk_start, walk_end, walk-sound, walk-few, walk-next}
+use Rattle.job.specs.Dropping.{reason_of, height_after, kept, filled_up}
+use Rattle.job.proofs.Walk.{rest, rest-record, rest_end, Good, Left, left-start, left-sound, left-next, left-bad, Looked, looked-start, looked-few, looked-kept, looked-dropped, looked-end}
 use Rattle.entries.specs.declared.Entry.{Entry}
 use Rattle.plan.specs.declared.Plan.{Plan}
 use Rattle.entries.specs.Entries.{rectangle_entry, image_entry}
 use Rattle.plan.specs.Plan.{margins, entries_of, is_flip, has_flip, plan_with, plan_of}
-use Rattle.plan.specs.Steps.{with_dropped, planned, stepped, RoomForCommand}
-use Rattle.plan.proofs.Listed.{lower-none, entries-more, entries-margin, entries-few, Low, low-none, low-get, low-push, low-down, push-with, shift-with}
+use Rattle.plan.specs.Steps.{planned, stepped, RoomForCommand}
+use Rattle.plan.proofs.Listed.{lower-none, entries-more, entries-margin, entries-few, Low, low-none, low-get, low-push, low-down, push-with, drop-with, shift-with}
 
 -- ---- a command that is kept, on the record
 
@@ -62,67 +60,86 @@ module _ (W : ℕ) (paper : RGBA) (H : ℕ) (ks : List Command) (ds : List Dropp
 
 -- ---- the loop over the commands: k are done, and those from `at` on are left
 
--- what is made of the commands ks, with those of ds dropped
-pub record Made (s : List ℕ) (p : Plan) (k at k' H : ℕ) (ks : List Command) (ds : List Dropped) : Type 0 where
-  pub behind : k ≡ k'
+pub record Going (s : List ℕ) (p : Plan) (k at : ℕ) : Type 0 where
+  pub H : ℕ
+  pub ks : List Command
+  pub ds : List Dropped
+  pub looked : Looked s k at H ks ds
   pub same : p ≡ plan_with (paper_width s) (paper_color s) H (entries_of (paper_width s) ks) ds
   pub low : Low H (entries_of (paper_width s) ks)
   pub plain : has_flip (rest s at) ≡ false
 
-abbrev pub Going : List ℕ → Plan → ℕ → ℕ → Type 0
-Going s p k at = Walk s at (λ k' H ks ds. Made s p k at k' H ks ds)
-
 pub going_start : (s : List ℕ) {p : Plan} → Good s → has_flip (commands s) ≡ false → p ≡ plan_with (paper_width s) (paper_color s) 0 [] [] → Going s p 0 commands_start
 unfolding entries_of
-going_start s g f e = walk_start s g (record { behind = refl; same = e; low = low-none; plain = rw g.commands at f })
+going_start s g f e = record { H = 0; ks = []; ds = []; looked = looked-start s g; same = e; low = low-none; plain = rw g.commands at f }
 
 module _ (s : List ℕ) (p : Plan) (k at : ℕ) (g : Going s p k at) where
+  pub going-bad : Bad ≡ record_at s at → ⊥
+  going-bad e = left-bad s at g.looked.left e
+
   pub going_end : End ≡ record_at s at → p ≡ plan_of s
   unfolding plan_of
-  going_end e = (walk_end s at g e).same
+  going_end e = let a = looked-end s k at g.H g.ks g.ds g.looked e in g.same ∙ rw (a.height, a.kept, a.dropped)
 
   module _ {kind st n nx : ℕ} (e : Record kind st n nx ≡ record_at s at) where
+    pub going-sound : sound_command s kind st n ≡ true
+    going-sound = left-sound s at g.looked.left e
+
     pub going-few : k < 64
-    going-few = omega (arith, g.own.behind, walk-few s at g e)
+    going-few = looked-few s k at g.H g.ks g.ds g.looked e refl
 
     pub going-ready : RoomForCommand p
     unfolding filled_up
     going-ready =
-        let h = walk-few s at g e in
-        let a = g.all in
+        let h = going-few in
+        let a = g.looked.all in
         let f = entries-few (paper_width s) g.ks in
-        rw g.own.same (record { entry = omega arith; drop = omega arith; tall = g.fits; low = λ i b. low-get g.own.low _ i b })
+        rw g.same (record { entry = omega arith; drop = omega arith; tall = g.looked.fits; low = λ i b. low-get g.low _ i b })
 
     module _ {c : Command} {p' : Plan} (q : c ≡ command_at s kind st n) (r : p' ≡ stepped p k c) where
       flips : (is_flip c ≡ false) × (has_flip (rest s nx) ≡ false)
       unfolding has_flip
-      flips = neither (is_flip c) (has_flip (rest s nx)) (rw q (rw (rest-record s at e) at g.own.plain))
+      flips = neither (is_flip c) (has_flip (rest s nx)) (rw q (rw (rest-record s at e) at g.plain))
 
-      next : k + 1 ≡ g.k + 1
-      next = omega (arith, g.own.behind)
+      by : (t : Bool) → kept (paper_width s) g.H c ≡ t → Going s p' (k + 1) nx
+      unfolding stepped
+      by true z =
+          let d = eqb-true _ _ z in
+          let h = going-few in
+          let a = after (paper_width s) (paper_color s) g.H g.ks g.ds (omega (arith, g.looked.all)) g.low c flips.0 in
+          record {
+            H = height_after g.H c;
+            ks = g.ks ++ (c ∷ []);
+            ds = g.ds;
+            looked = looked-kept s k at g.H g.ks g.ds g.looked e q d;
+            same = r ∙ rw (g.same, z) a.same;
+            low = a.low;
+            plain = flips.1;
+          }
+      by false z =
+          let d = eqb-false _ _ z in
+          let h = going-few in
+          record {
+            H = g.H;
+            ks = g.ks;
+            ds = g.ds ++ (record { place = k; reason = reason_of (paper_width s) g.H c } ∷ []);
+            looked = looked-dropped s k at g.H g.ks g.ds g.looked e q d;
+            same = r ∙ rw (g.same, z) (drop-with (paper_width s) (paper_color s) g.H (entries_of (paper_width s) g.ks) g.ds k (reason_of (paper_width s) g.H c) (omega (arith, g.looked.all)));
+            low = g.low;
+            plain = flips.1;
+          }
 
       pub going_next : Going s p' (k + 1) nx
-      unfolding stepped
-      going_next =
-          let W : ℕ = paper_width s in
-          let h = walk-few s at g e in
-          walk-next s at g e q
-          (λ z.
-          let a = after W (paper_color s) g.H g.ks g.ds (omega (arith, g.all)) g.own.low c flips.0 in
-          record { behind = next; same = r ∙ rw (g.own.same, eq-eqb _ done z) a.same; low = a.low; plain = flips.1 })
-          (λ z.
-          let d = also-dropped g.ds g.k (reason_of W g.H c) (omega (arith, g.all)) in
-          record {
-            behind = next;
-            same = r ∙ rw (g.own.same, ne_eqb _ done z, g.own.behind) (ap (with_dropped (plan_with W (paper_color s) g.H (entries_of W g.ks) g.ds)) d);
-            low = g.own.low;
-            plain = flips.1;
-          })
+      going_next = by (kept (paper_width s) g.H c) refl
 
 -- ---- a flip looked for
 
-abbrev pub Searched : List ℕ → ℕ → Type 0
-Searched s at = Walk s at (λ k H ks ds. has_flip (commands s) ≡ has_flip (rest s at))
+pub record Searched (s : List ℕ) (at : ℕ) : Type 0 where
+  pub tail : has_flip (commands s) ≡ has_flip (rest s at)
+  pub left : Left s at
+
+pub searched-start : (s : List ℕ) → Good s → Searched s commands_start
+searched-start s g = record { tail = ap has_flip g.commands; left = left-start s g }
 
 same : (a b : ℕ) → (a ≡ b) ⊎ (a ≡ b → ⊥)
 same a b = by (eqb a b) refl
@@ -150,14 +167,17 @@ module _ (s : List ℕ) (at : ℕ) (g : Searched s at) where
   module _ {kind st n nx : ℕ} (e : Record kind st n nx ≡ record_at s at) where
     one : has_flip (commands s) ≡ (eqb kind flip_kind || has_flip (rest s nx))
     unfolding has_flip
-    one = g.own ∙ rw (rest-record s at e, flip-kind s kind st n (walk-sound s at g e))
+    one = g.tail ∙ rw (rest-record s at e, flip-kind s kind st n (left-sound s at g.left e))
 
     pub searched-next : (kind ≡ flip_kind → ⊥) → Searched s nx
-    searched-next k = let f : has_flip (commands s) ≡ has_flip (rest s nx) = one ∙ rw (ne_eqb kind flip_kind k) in walk-next s at g e refl (λ _. f) (λ _. f)
+    searched-next k = record { tail = one ∙ rw (ne_eqb kind flip_kind k); left = left-next s at g.left e }
 
     pub searched-found : kind ≡ flip_kind → true ≡ has_flip (commands s)
     searched-found k = sym (one ∙ rw (eq-eqb kind flip_kind k))
 
   pub searched-end : End ≡ record_at s at → false ≡ has_flip (commands s)
   unfolding has_flip
-  searched-end e = sym (g.own ∙ rw (rest_end s at e))
+  searched-end e = sym (g.tail ∙ rw (rest_end s at e))
+
+  pub searched-bad : {r : Bool} → Bad ≡ record_at s at → r ≡ has_flip (commands s)
+  searched-bad e = absurd (left-bad s at g.left e)

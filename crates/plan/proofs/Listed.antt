@@ -9,11 +9,11 @@ use Rattle.colour.specs.declared.RGBA.{RGBA}
 use Rattle.job.specs.declared.dropping.Dropped.{Dropped}
 use Rattle.job.specs.declared.commands.Command.{Command}
 use Rattle.job.specs.declared.commands.Command.TheVariants.{Rectangle, Image, Margin, Flip}
-use Rattle.job.specs.Dropping.{filled_up}
+use Rattle.job.specs.Dropping.{no_dropped, filled_up}
 use Rattle.job.proofs.Folds.{filled_more}
 use Rattle.entries.specs.declared.Entry.{Entry}
 use Rattle.plan.specs.Plan.{lower, margins, entries_of, no_entry, plan_with}
-use Rattle.plan.specs.Steps.{lowered_entries, pushed, shifted}
+use Rattle.plan.specs.Steps.{lowered_entries, pushed, shifted, left_out}
 
 -- ---- one command more
 
@@ -94,6 +94,9 @@ lowered-down m (e ∷ es) fs = ap (λ (l : List Entry). lower m e ∷ l) (lowere
 module _ (W : ℕ) (paper : RGBA) (H : ℕ) (es : List Entry) (ds : List Dropped) where
   pub push-with : (e : Entry) → length es < 64 → pushed (plan_with W paper H es ds) e ≡ plan_with W paper (max H (e.y + e.h)) (es ++ (e ∷ [])) ds
   push-with e h = rw (filled_more no_entry e es h, ← length-append es (e ∷ [])) refl
+
+  pub drop-with : (k why : ℕ) → length ds < 64 → left_out (plan_with W paper H es ds) k why ≡ plan_with W paper H es (ds ++ (record { place = k; reason = why } ∷ []))
+  drop-with k why h = rw (filled_more no_dropped (record { place = k; reason = why }) ds h, ← length-append ds (record { place = k; reason = why } ∷ [])) refl
 
   pub shift-with : (m : ℕ) → shifted (plan_with W paper H es ds) m ≡ plan_with W paper (H + m) (down m es) ds
   unfolding filled_up

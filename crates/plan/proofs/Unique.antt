@@ -1,10 +1,6 @@
--- Each public function's contract leaves one answer. Assumes nothing.
+-- The public function's contract leaves one answer. Assumes nothing.
 use Rattle.numbers.proofs.OneAnswer.{OneAnswer, both}
-use Rattle.plan.proofs.fresh.Reads as fresh
 use Rattle.plan.proofs.translate.Reads as translate
-
-fresh-one : OneAnswer fresh.Post
-fresh-one k a x y e f p q = both p q
 
 translate-one : OneAnswer translate.Post
 translate-one k a x y e f p q = both p q

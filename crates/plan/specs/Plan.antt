@@ -5,7 +5,7 @@ use Rattle.colour.specs.Colour.{blank}
 use Rattle.colour.specs.declared.RGBA.{RGBA}
 use Rattle.images.specs.Stretching.{factor}
 use Rattle.job.specs.Commands.{paper_width, paper_color, commands}
-use Rattle.job.specs.Dropping.{job_refusal, job_height, job_dropped, kept_of, filled_up, dropped_list}
+use Rattle.job.specs.Dropping.{job_refusal, job_height, job_dropped, kept_of, no_dropped, filled_up}
 use Rattle.job.specs.declared.dropping.Dropped.{Dropped}
 use Rattle.job.specs.declared.commands.Command.{Command}
 use Rattle.job.specs.declared.commands.Command.TheVariants.{Rectangle, Image, Margin, Flip}
@@ -89,7 +89,8 @@ plan_with W paper height es ds = record {
   paper_color = paper;
   count = length es;
   entries = filled_up no_entry es;
-  dropped = dropped_list ds;
+  dropped_count = length ds;
+  dropped = filled_up no_dropped ds;
 }
 
 unfoldable pub plan_of : List ℕ → Plan

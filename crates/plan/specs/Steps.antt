@@ -4,12 +4,11 @@ use Rattle.numbers.specs.Numbers.{limit}
 use Rattle.images.specs.Stretching.{factor}
 use Rattle.job.specs.declared.commands.Command.{Command}
 use Rattle.job.specs.declared.commands.Command.TheVariants.{Rectangle, Image, Margin, Flip}
-use Rattle.job.specs.Dropping.{most_commands, reason_of, kept, also_dropped}
+use Rattle.job.specs.Dropping.{most_commands, reason_of, kept}
 use Rattle.entries.specs.declared.Entry.{Entry}
 use Rattle.plan.specs.declared.Plan.{Plan}
 use Rattle.entries.specs.Entries.{rectangle_entry, image_entry}
 use Rattle.plan.specs.Plan.{lower, no_entry}
-use Rattle.job.specs.declared.dropping.DroppedList.{DroppedList}
 
 -- the first n entries m rows further down
 unfoldable pub lowered_entries : ℕ → ℕ → List Entry → List Entry
@@ -24,6 +23,7 @@ with_entries p height count es = record {
   paper_color = p.paper_color;
   count = count;
   entries = es;
+  dropped_count = p.dropped_count;
   dropped = p.dropped;
 }
 
@@ -35,15 +35,16 @@ pushed p e = with_entries p (max p.height (e.y + e.h)) (p.count + 1) (set p.entr
 abbrev pub shifted : Plan → ℕ → Plan
 shifted p m = with_entries p (p.height + m) p.count (lowered_entries m p.count p.entries)
 
--- the same entries, and other dropped commands
-abbrev pub with_dropped : Plan → DroppedList → Plan
-with_dropped p dropped = record {
+-- one dropped command more
+abbrev pub left_out : Plan → ℕ → ℕ → Plan
+left_out p k why = record {
   width = p.width;
   height = p.height;
   paper_color = p.paper_color;
   count = p.count;
   entries = p.entries;
-  dropped = dropped;
+  dropped_count = p.dropped_count + 1;
+  dropped = set p.dropped p.dropped_count (record { place = k; reason = why });
 }
 
 unfoldable pub planned : Plan → Command → Plan
@@ -53,7 +54,7 @@ planned p (Margin m) = shifted p m
 planned p (Flip x y w h) = p
 
 unfoldable pub stepped : Plan → ℕ → Command → Plan
-stepped p k c = if kept p.width p.height c then planned p c else with_dropped p (also_dropped p.dropped k (reason_of p.width p.height c))
+stepped p k c = if kept p.width p.height c then planned p c else left_out p k (reason_of p.width p.height c)
 
 -- ---- when a step may be taken
 
@@ -66,6 +67,6 @@ pub record RoomForRows (p : Plan) (m : ℕ) : Type 0 where
 -- one command more, kept or dropped
 pub record RoomForCommand (p : Plan) : Type 0 where
   pub entry : p.count < most_commands
-  pub drop : p.dropped.count < most_commands
+  pub drop : p.dropped_count < most_commands
   pub tall : p.height ≤ limit
   pub low : (i : ℕ) → i < p.count → (get_or p.entries i no_entry).y ≤ p.height

@@ -12,11 +12,12 @@ ghost use Rattle.plan.specs.Plan.{no_entry, plan_with, plan_of, has_flip, transl
 use colour::RGBA;
 use entries::Entry;
 use job::kinds::{COMMANDS_START, FLIP};
-use job::{DroppedList, Rec};
+use job::{Dropped, Rec};
 use numbers::{DONE, NOT_TRANSLATED};
 use steps::step;
 
-// The first `count` entries are used; all other places are zero.
+// The first `count` entries are used, and the first `dropped_count` dropped commands; all other
+// places are zero.
 #[repr(C)]
 #[derive(Clone, Copy)]
 pub struct Plan {
@@ -25,7 +26,8 @@ pub struct Plan {
     pub paper_color: RGBA,
     pub count: usize,
     pub entries: [Entry; 64],
-    pub dropped: DroppedList,
+    pub dropped_count: usize,
+    pub dropped: [Dropped; 64],
 }
 
 #[repr(C)]
@@ -54,18 +56,21 @@ fn no_entry() -> Entry
     }
 }
 
-// A plan of no entries.
-pub fn fresh(width: u32, height: u32, paper_color: RGBA) -> Plan
-    ensures { result ≡ plan_with width paper_color height [] [] }
+// A plan of no commands.
+fn fresh(width: u32, paper_color: RGBA) -> Plan
+    ensures { result ≡ plan_with width paper_color 0 [] [] }
 {
-    let dropped = DroppedList::none();
     Plan {
         width,
-        height,
+        height: 0,
         paper_color,
         count: 0,
         entries: [no_entry(); 64],
-        dropped,
+        dropped_count: 0,
+        dropped: [Dropped {
+            place: 0,
+            reason: 0,
+        }; 64],
     }
 }
 
@@ -104,7 +109,7 @@ fn plan_of(s: &[u8]) -> Plan
 {
     let width = job::paper_width(s);
     let paper_color = job::paper_color(s);
-    let mut p = fresh(width, 0, paper_color);
+    let mut p = fresh(width, paper_color);
     let mut k: u32 = 0;
     let mut at = COMMANDS_START;
     loop {
@@ -135,11 +140,11 @@ pub fn translate(s: &[u8]) -> Translated
 {
     let number = job::job_refusal(s);
     if number != DONE {
-        let plan = fresh(0, 0, RGBA::BLANK);
+        let plan = fresh(0, RGBA::BLANK);
         return Translated { number, plan };
     }
     if has_flip(s) {
-        let plan = fresh(0, 0, RGBA::BLANK);
+        let plan = fresh(0, RGBA::BLANK);
         return Translated {
             number: NOT_TRANSLATED,
             plan,

@@ -1,11 +1,11 @@
 // What is made of a plan at each command.
 ghost use Rattle.std.specs.Prelude.{◌≡◌, ◌+◌, ◌<◌, ◌≤◌};
 ghost use Rattle.numbers.specs.Numbers.{limit};
-ghost use Rattle.plan.specs.Steps.{pushed, shifted, stepped, RoomForRows, RoomForCommand};
+ghost use Rattle.plan.specs.Steps.{pushed, shifted, left_out, stepped, RoomForRows, RoomForCommand};
 
 use super::Plan;
 use entries::Entry;
-use job::Command;
+use job::{Command, Dropped};
 use numbers::{DONE, larger_side};
 
 // One entry more, and a plan as high as it needs.
@@ -18,6 +18,17 @@ fn push(plan: Plan, e: Entry) -> Plan
     p.entries[n] = e;
     p.count = n + 1;
     p.height = larger_side(p.height, e.y + e.h);
+    p
+}
+
+fn leave_out(plan: Plan, place: u32, reason: u8) -> Plan
+    requires { plan.dropped_count < 64 }
+    ensures { result ≡ left_out plan place reason }
+{
+    let mut p = plan;
+    let n = p.dropped_count;
+    p.dropped[n] = Dropped { place, reason };
+    p.dropped_count = n + 1;
     p
 }
 
@@ -39,16 +50,13 @@ fn shift(plan: Plan, m: u32) -> Plan
     p
 }
 
-pub(crate) fn step(plan: Plan, k: u32, c: Command) -> Plan
-    requires { RoomForCommand plan }
-    ensures { result ≡ stepped plan k c }
+pub(crate) fn step(p: Plan, k: u32, c: Command) -> Plan
+    requires { RoomForCommand p }
+    ensures { result ≡ stepped p k c }
 {
-    let mut p = plan;
     let why = job::command_reason(p.width, p.height, c);
     if why != DONE {
-        let dropped = p.dropped;
-        p.dropped = dropped.push(k, why);
-        return p;
+        return leave_out(p, k, why);
     }
     match c {
         Command::Rectangle {

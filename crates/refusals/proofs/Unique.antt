@@ -1,6 +1,6 @@
 -- The contract of each step leaves one answer. Assumes nothing.
 use Rattle.numbers.proofs.OneAnswer.{OneAnswer, both}
-use Rattle.refusals.proofs.first_of.Reads as first_of
+use Rattle.refusals.proofs.first.Reads as first
 use Rattle.refusals.proofs.rows_of.Reads as rows-of
 use Rattle.refusals.proofs.tall_refusal.Reads as tall-refusal
 use Rattle.refusals.proofs.wide_refusal.Reads as wide-refusal
@@ -17,8 +17,8 @@ use Rattle.refusals.proofs.widen_refusal.Reads as widen-refusal
 use Rattle.refusals.proofs.out_refusal.Reads as out-refusal
 use Rattle.refusals.proofs.rgb_refusal.Reads as rgb-refusal
 
-first-of-one : OneAnswer first_of.Post
-first-of-one k a x y e f p q = both p q
+first_one : OneAnswer first.Post
+first_one k a x y e f p q = both p q
 
 rows-of-one : OneAnswer rows-of.Post
 rows-of-one k a x y e f p q = both p q

@@ -3,8 +3,8 @@ use Rattle.std.specs.Prelude.{ℕ, ◌+◌, ◌*◌, max, Bool, not, ◌&&◌, �
 use Rattle.numbers.specs.Numbers.{limit, done, no_room, too_large, off_paper, too_tall, bad_canvas, empty_area}
 
 -- the first number that is not 0
-unfoldable pub first_of : ℕ → ℕ → ℕ
-first_of a b = if eqb a done then b else a
+unfoldable pub first : ℕ → ℕ → ℕ
+first a b = if eqb a done then b else a
 
 -- with no width there is no height
 unfoldable pub rows_of : ℕ → ℕ → ℕ
@@ -54,24 +54,24 @@ empty_refusal w h = if eqb w 0 || eqb h 0 then empty_area else done
 
 -- growing to a height: 9, 8, 1
 unfoldable pub grow_refusal : ℕ → ℕ → ℕ → ℕ → ℕ
-grow_refusal W H height n = first_of (first_of (canvas_refusal W H n) (tall_refusal height)) (room_refusal W (max H height) n)
+grow_refusal W H height n = first (first (canvas_refusal W H n) (tall_refusal height)) (room_refusal W (max H height) n)
 
 -- a top margin: 9, 8, 1
 unfoldable pub margin_refusal : ℕ → ℕ → ℕ → ℕ → ℕ
-margin_refusal W H rows n = first_of (first_of (canvas_refusal W H n) (tall_refusal (H + rows))) (room_refusal W (H + rows) n)
+margin_refusal W H rows n = first (first (canvas_refusal W H n) (tall_refusal (H + rows))) (room_refusal W (H + rows) n)
 
 -- setting the width: 9, 2. 1 cannot arise, since no byte is asked for
 unfoldable pub width_refusal : ℕ → ℕ → ℕ → ℕ → ℕ
-width_refusal W H new n = first_of (canvas_refusal W H n) (wide_refusal new)
+width_refusal W H new n = first (canvas_refusal W H n) (wide_refusal new)
 
 -- widening: 9, 2, 1. A smaller width is done and changes nothing
 unfoldable pub widen_refusal : ℕ → ℕ → ℕ → ℕ → ℕ
-widen_refusal W H new n = first_of (width_refusal W H new n) (if leb new W then done else room_refusal new H n)
+widen_refusal W H new n = first (width_refusal W H new n) (if leb new W then done else room_refusal new H n)
 
 -- writing the dots to a second buffer, of `room` bytes: 9, 1
 unfoldable pub out_refusal : ℕ → ℕ → ℕ → ℕ → ℕ
-out_refusal W H n room = first_of (canvas_refusal W H n) (room_refusal W H room)
+out_refusal W H n room = first (canvas_refusal W H n) (room_refusal W H room)
 
 -- RGB output: 9, 1
 unfoldable pub rgb_refusal : ℕ → ℕ → ℕ → ℕ → ℕ
-rgb_refusal W H n room = first_of (canvas_refusal W H n) (rgb_room_refusal W H room)
+rgb_refusal W H n room = first (canvas_refusal W H n) (rgb_room_refusal W H room)

@@ -6,13 +6,13 @@
 mod drawn;
 
 ghost use Rattle.std.specs.Prelude.{◌≡◌};
-ghost use Rattle.refusals.specs.Refusals.{rows_of, canvas_refusal, tall_refusal, wide_refusal, room_refusal, rgb_room_refusal, grow_refusal, margin_refusal, widen_refusal, width_refusal, out_refusal, rgb_refusal, first_of};
+ghost use Rattle.refusals.specs.Refusals.{first, rows_of, canvas_refusal, tall_refusal, wide_refusal, room_refusal, rgb_room_refusal, grow_refusal, margin_refusal, widen_refusal, width_refusal, out_refusal, rgb_refusal};
 
 pub use drawn::{across_refusal, empty_refusal, off_refusal, side_refusal};
 use numbers::{BAD_CANVAS, DONE, LIMIT, NO_ROOM, TOO_LARGE, TOO_TALL, larger_side};
 
-pub fn first_of(number: u8, next: u8) -> u8
-    ensures { result ≡ first_of number next }
+pub fn first(number: u8, next: u8) -> u8
+    ensures { result ≡ first number next }
 {
     if number != DONE {
         return number;
@@ -87,15 +87,15 @@ pub fn canvas_refusal(w: u32, h: u32, n: usize) -> u8
 pub fn grow_refusal(w: u32, h: u32, height: u32, n: usize) -> u8
     ensures { result ≡ grow_refusal w h height n }
 {
-    let number = first_of(canvas_refusal(w, h, n), tall_refusal(height as usize));
-    first_of(number, room_refusal(w, larger_side(h, height), n))
+    let number = first(canvas_refusal(w, h, n), tall_refusal(height as usize));
+    first(number, room_refusal(w, larger_side(h, height), n))
 }
 
 // The sum of two heights fits a u32 once it is within the limit.
 pub fn margin_refusal(w: u32, h: u32, rows: u32, n: usize) -> u8
     ensures { result ≡ margin_refusal w h rows n }
 {
-    let number = first_of(
+    let number = first(
         canvas_refusal(w, h, n),
         tall_refusal(h as usize + rows as usize),
     );
@@ -108,7 +108,7 @@ pub fn margin_refusal(w: u32, h: u32, rows: u32, n: usize) -> u8
 pub fn width_refusal(w: u32, h: u32, width: u32, n: usize) -> u8
     ensures { result ≡ width_refusal w h width n }
 {
-    first_of(canvas_refusal(w, h, n), wide_refusal(width))
+    first(canvas_refusal(w, h, n), wide_refusal(width))
 }
 
 pub fn widen_refusal(w: u32, h: u32, width: u32, n: usize) -> u8
@@ -118,17 +118,17 @@ pub fn widen_refusal(w: u32, h: u32, width: u32, n: usize) -> u8
     if width <= w {
         return number;
     }
-    first_of(number, room_refusal(width, h, n))
+    first(number, room_refusal(width, h, n))
 }
 
 pub fn out_refusal(w: u32, h: u32, n: usize, room: usize) -> u8
     ensures { result ≡ out_refusal w h n room }
 {
-    first_of(canvas_refusal(w, h, n), room_refusal(w, h, room))
+    first(canvas_refusal(w, h, n), room_refusal(w, h, room))
 }
 
 pub fn rgb_refusal(w: u32, h: u32, n: usize, room: usize) -> u8
     ensures { result ≡ rgb_refusal w h n room }
 {
-    first_of(canvas_refusal(w, h, n), rgb_room_refusal(w, h, room))
+    first(canvas_refusal(w, h, n), rgb_room_refusal(w, h, room))
 }

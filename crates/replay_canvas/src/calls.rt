@@ -2,12 +2,12 @@
 ghost use Rattle.std.specs.Prelude.{◌≤◌, length};
 
 use super::drawn::{filled, put};
-use super::record::{canvas, image_at};
-use thermal_image::{Answer, Output, ThermalImage};
+use super::record::{canvas, copied, image_at};
+use thermal_image::{Answer, Rgb, ThermalImage};
 use vectors::hex::number_at;
 use vectors::seeds::fill_from;
 
-pub(crate) fn answer(line: &[u8], buf: &mut [u8], out: &mut [u8]) -> Output
+pub fn answer(line: &[u8], buf: &mut [u8], out: &mut [u8]) -> Rgb
     requires { 167 ≤ length line.now }
 {
     match line[0] {
@@ -19,18 +19,18 @@ pub(crate) fn answer(line: &[u8], buf: &mut [u8], out: &mut [u8]) -> Output
 }
 
 // Calls that tell sizes.
-fn shown(line: &[u8], buf: &[u8], out: &mut [u8]) -> Output
+fn shown(line: &[u8], buf: &[u8], out: &mut [u8]) -> Rgb
     requires { 167 ≤ length line.now }
 {
     let image = image_at(line);
     match line[0] {
-        b'g' => Output {
+        b'g' => Rgb {
             number: 0,
             image,
             width: 0,
             height: image.get_height(),
         },
-        b'c' => image.copy(buf, out),
+        b'c' => copied(image, image.copy(buf, out)),
         _ => image.consume_rgb_u8(buf, out),
     }
 }

@@ -7,7 +7,7 @@ use vectors::hex::{color_at, number_at};
 use vectors::seeds::fill_from;
 
 // Pixels are worked out from a seed.
-pub(crate) fn put(line: &[u8], buf: &mut [u8]) -> Answer
+pub fn put(line: &[u8], buf: &mut [u8]) -> Answer
     requires { 167 ≤ length line.now }
 {
     let count = number_at(line, 78, 6) as usize;
@@ -37,7 +37,7 @@ fn put_all(line: &[u8], pixels: &[u8], buf: &mut [u8]) -> Answer
     drawing::put_render_img(t, x, y, w, h, pixels, kind == b'u', buf)
 }
 
-pub(crate) fn filled(line: &[u8], buf: &mut [u8]) -> Answer
+pub fn filled(line: &[u8], buf: &mut [u8]) -> Answer
     requires { 167 ≤ length line.now }
 {
     let kind = line[0];

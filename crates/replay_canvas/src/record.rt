@@ -1,10 +1,10 @@
 // The canvas that a call is given, and what a line says of what it gives.
 ghost use Rattle.std.specs.Prelude.{◌≤◌, length};
 
-use thermal_image::{Answer, Output, ThermalImage};
+use thermal_image::{Answer, Copied, Rgb, ThermalImage};
 use vectors::hex::{byte_at, color_at, is_record, number_at};
 
-pub(crate) fn image_at(line: &[u8]) -> ThermalImage
+pub fn image_at(line: &[u8]) -> ThermalImage
     requires { 167 ≤ length line.now }
 {
     ThermalImage {
@@ -15,11 +15,11 @@ pub(crate) fn image_at(line: &[u8]) -> ThermalImage
     }
 }
 
-// All that a call gives is kept in the record of `copy` and RGB output: the number, the canvas, and
-// the width and height of what is written out.
-pub(crate) fn canvas(r: Answer) -> Output {
+// All that a call gives is kept in the record of RGB output: the number, the canvas, and the width
+// and height of what is written out.
+pub fn canvas(r: Answer) -> Rgb {
     let image = r.image;
-    Output {
+    Rgb {
         number: r.number,
         image,
         width: 0,
@@ -27,7 +27,16 @@ pub(crate) fn canvas(r: Answer) -> Output {
     }
 }
 
-pub(crate) fn says(line: &[u8], r: Output) -> bool
+pub fn copied(image: ThermalImage, r: Copied) -> Rgb {
+    Rgb {
+        number: r.number,
+        image,
+        width: r.width,
+        height: r.height,
+    }
+}
+
+pub fn says(line: &[u8], r: Rgb) -> bool
     requires { 167 ≤ length line.now }
 {
     if r.number != byte_at(line, 99) {

@@ -3,13 +3,12 @@
 // a head of fixed places, and then the job.
 #![tactic(auto)]
 
-mod lent;
 mod planned;
 
 ghost use Rattle.std.specs.Prelude.{◌≤◌, length};
 
 use input::read_full;
-use job::DroppedList;
+use job::Dropped;
 use planned::plan_agrees;
 use runs::Ran;
 use std::fs::File;
@@ -91,20 +90,20 @@ fn says(line: &[u8], r: Ran) -> bool
     if !is_record(line, 10, t.width, t.height, t.auto_grow, t.paper_color) {
         return false;
     }
-    let dropped = r.dropped;
-    if dropped.count != byte_at(line, 39) as usize {
+    if r.dropped_count != byte_at(line, 39) as usize {
         return false;
     }
-    listed(dropped) == number_at(line, 42, 8)
+    let dropped = r.dropped;
+    listed(dropped, r.dropped_count) == number_at(line, 42, 8)
 }
 
 // The checksum of a dropped list: two bytes each, place and reason.
-fn listed(dropped: DroppedList) -> u32 {
+fn listed(dropped: [Dropped; 64], count: usize) -> u32 {
     let mut sum = NO_BYTES;
     let mut i = 0;
     while i < 64 {
-        if i < dropped.count {
-            let d = dropped.list[i];
+        if i < count {
+            let d = dropped[i];
             sum = sum_with(sum_with(sum, (d.place % 256) as u8), d.reason);
         }
         i += 1;

@@ -1,12 +1,11 @@
 // What a line says of the plan.
 ghost use Rattle.std.specs.Prelude.{◌≤◌, length};
 
-use super::lent::list_agrees;
 use plan::Plan;
 use vectors::hex::{byte_at, number_at};
 use vectors::sums::{NO_BYTES, sum_with};
 
-pub(crate) fn plan_agrees(line: &[u8], job: &[u8], canvas: &[u8]) -> bool
+pub fn plan_agrees(line: &[u8], job: &[u8], canvas: &[u8]) -> bool
     requires { 76 ≤ length line.now }
 {
     let t = plan::translate(job);
@@ -17,22 +16,14 @@ pub(crate) fn plan_agrees(line: &[u8], job: &[u8], canvas: &[u8]) -> bool
         return true;
     }
     let mut space = [0; 65536];
-    let mut other = [0; 65536];
     let ink = number_at(line, 63, 8);
     let plan = t.plan;
-    rows_agree(plan, job, canvas, &mut space, &mut other, ink)
+    rows_agree(plan, job, canvas, &mut space, ink)
 }
 
-// Each row of the plan is that row of the canvas, if there is one, and that of a list of its entries,
-// and the checksum of their ink is the line's.
-fn rows_agree(
-    plan: Plan,
-    job: &[u8],
-    canvas: &[u8],
-    space: &mut [u8],
-    other: &mut [u8],
-    ink: u32,
-) -> bool {
+// Each row of the plan is that row of the canvas, if there is one, and the checksum of their ink is
+// the line's.
+fn rows_agree(plan: Plan, job: &[u8], canvas: &[u8], space: &mut [u8], ink: u32) -> bool {
     let wide = plan.width as usize * 4;
     let mut sum = NO_BYTES;
     let mut from = 0;
@@ -43,12 +34,6 @@ fn rows_agree(
             return false;
         }
         if !same_bytes(space, canvas, from, wide) {
-            return false;
-        }
-        if !list_agrees(plan, row, job, other, a) {
-            return false;
-        }
-        if !same_bytes(other, space, 0, wide) {
             return false;
         }
         sum = inked(sum, a.ink);

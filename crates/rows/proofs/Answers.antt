@@ -1,9 +1,9 @@
 -- What the row functions answer. Assumes nothing.
 use Prim.Native.Nat.{ℕ, zero, suc, ◌*◌, ◌≤◌, ◌<◌}
-use mathlib.Core.Path.{◌≡◌, refl, ◌∙◌}
+use mathlib.Core.Path.{◌≡◌, refl, sym, ◌∙◌}
 use mathlib.Core.List.{List, [], ◌∷◌}
 use native.Mathlib.Omega.{arith}
-use borrow.Author.Tests.{ne_eqb}
+use borrow.Author.Tests.{ne_eqb, le-ltb}
 use lib.ListN.{length, get_or, length-append}
 use Rattle.numbers.specs.Numbers.{done}
 use Rattle.colour.specs.declared.RGBA.{RGBA}
@@ -13,7 +13,7 @@ use Rattle.entries.specs.declared.Entry.{Entry}
 use Rattle.plan.specs.Plan.{no_entry}
 use Rattle.plan.specs.declared.Plan.{Plan}
 use Rattle.rows.specs.declared.RowAnswer.{RowAnswer}
-use Rattle.rows.specs.Rows.{row_refusal, entries_on, row_on, rows_on, ink, row_written, row_given, list_written, list_given, firsts, used, plan_written, plan_given, plan_rows_refusal, plan_rows_written}
+use Rattle.rows.specs.Rows.{refusal_of, row_refusal, entries_on, row_on, rows_on, ink, row_written, row_given, list_written, list_given, firsts, used, plan_written, plan_given, plan_rows_refusal, plan_rows_written}
 
 module _ (s : List ℕ) (W H : ℕ) (paper : RGBA) (count : ℕ) (es : List Entry) (row : ℕ) (l : List ℕ) {number : ℕ} (e : number ≡ row_refusal W H (length s) count es row (length l)) where
   pub row-refused : (number ≡ done → ⊥) → ◌≡◌ {A = RowAnswer} (record { number = number; ink = 0 }) (row_given s W H paper count es row l)
@@ -51,13 +51,13 @@ unfolding firsts
 length-firsts zero es = refl
 length-firsts (suc n) es = length-append (firsts n es) (get_or es n no_entry ∷ []) ∙ rw (length-firsts n es) (omega arith)
 
-pub same-given : (s : List ℕ) (p : Plan) (row : ℕ) (l : List ℕ) → plan_given s p row l ≡ list_given s p.width p.height p.paper_color (used p) row l
-same-given s p row l = rw (length-firsts p.count p.entries)
+pub same_answer : (s : List ℕ) (p : Plan) (row : ℕ) (l : List ℕ) → plan_given s p row l ≡ list_given s p.width p.height p.paper_color (used p) row l
+same_answer s p row l = rw (length-firsts p.count p.entries)
 
-pub same-written : (s : List ℕ) (p : Plan) (row : ℕ) (l : List ℕ) → plan_written s p row l ≡ list_written s p.width p.height p.paper_color (used p) row l
-same-written s p row l = rw (length-firsts p.count p.entries)
+pub same_row : (s : List ℕ) (p : Plan) (row : ℕ) (l : List ℕ) → plan_written s p row l ≡ list_written s p.width p.height p.paper_color (used p) row l
+same_row s p row l = rw (length-firsts p.count p.entries)
 
--- ---- the dots of a row, and its ink, are the same in every buffer that has room for it
+-- ---- the ink of a row is the same in every buffer that has room for it
 
 pub ink-dots : (n : ℕ) (l m : List ℕ) → ((i : ℕ) → i < n → dot_at l i ≡ dot_at m i) → ink n l ≡ ink n m
 unfolding ink
@@ -67,3 +67,12 @@ ink-dots (suc n) l m f = rw (ink-dots n l m (λ i h. f i (omega arith)), f n (om
 pub row-dot : (s : List ℕ) (W : ℕ) (paper : RGBA) (es : List Entry) (row : ℕ) (l : List ℕ) (i : ℕ) → i < W → W * 4 ≤ length l → dot_at (row_on s W paper es row l) i ≡ entries_on s es i row paper
 unfolding row_on
 row-dot s W paper es row l i h r = change-picked (within 0 W) _ l i (within-yes 0 W i (omega arith) h) (omega arith)
+
+module _ (s : List ℕ) (W H : ℕ) (paper : RGBA) (count : ℕ) (es : List Entry) (row : ℕ) (l m : List ℕ) (hl : W * 4 ≤ length l) (hm : W * 4 ≤ length m) where
+  same-refusal : row_refusal W H (length s) count es row (length l) ≡ row_refusal W H (length s) count es row (length m)
+  unfolding refusal_of
+  same-refusal = rw (le-ltb (length l) (4 * W) (omega arith), le-ltb (length m) (4 * W) (omega arith))
+
+  pub same-ink : (row_given s W H paper count es row l).ink ≡ (row_given s W H paper count es row m).ink
+  unfolding row_given
+  same-ink = rw (same-refusal, ink-dots W (row_on s W paper es row l) (row_on s W paper es row m) (λ i h. row-dot s W paper es row l i h hl ∙ sym (row-dot s W paper es row m i h hm)))

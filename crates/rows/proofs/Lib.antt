@@ -1,5 +1,4 @@
 pub mod Rules
 pub mod Lines
 pub mod Answers
-pub mod Planned
 mod Unique

@@ -99,6 +99,16 @@ module _ (s : List ℕ) (W : ℕ) (paper : RGBA) (es : List Entry) (row : ℕ) (
       let o : (0 + 1) * W ≡ W = one-mul W in
       rw (z, o) (change-by (within 0 W) _ _ l (λ k t. let b = (within-true 0 W k t).1 in rw (mod-eq_of_lt b, div-eq_of_lt b, sub-zero, add-zero row)))
 
+  -- and of one entry more
+  pub row_more : (i : ℕ) → 0 < W → entry_rows s (get_or es i no_entry) W 0 row 1 (row_on s W paper (firsts i es) row l) ≡ row_on s W paper (firsts (i + 1) es) row l
+  unfolding row_on
+  row_more i w =
+      let z : 0 * W ≡ 0 = zero-mul W in
+      let o : (0 + 1) * W ≡ W = one-mul W in
+      on-rows s W row 0 1 (get_or es i no_entry) _ w
+      ∙ rw (z, o) (change-over (within 0 W) _ _ l ∙ change-by (within 0 W) _ _ l (λ k t.
+      let b = (within-true 0 W k t).1 in rw (mod-eq_of_lt b, div-eq_of_lt b, sub-zero, add-zero row) (sym (entries_next s es i k row paper))))
+
 -- ---- rows in bands: j of n are done in b
 
 module _ (s : List ℕ) (W : ℕ) (paper : RGBA) (es : List Entry) (first n : ℕ) (l : List ℕ) where

@@ -1,7 +1,19 @@
--- Each public function's contract leaves one answer and one content of the buffer. Assumes nothing.
+-- Each public function's contract leaves one answer, and those of `row` and `rows` one content of the buffer. Assumes nothing.
 use Rattle.numbers.proofs.OneAnswer.{OneAnswer, OneContent, both}
+use Rattle.rows.proofs.good_sizes.Reads as good-sizes
+use Rattle.rows.proofs.refusal_of.Reads as refusal-of
+use Rattle.rows.proofs.ink_of.Reads as ink-of
 use Rattle.rows.proofs.row.Reads as row
 use Rattle.rows.proofs.rows.Reads as rows
+
+good-sizes-one : OneAnswer good-sizes.Post
+good-sizes-one k a x y e f p q = both p q
+
+refusal-of-one : OneAnswer refusal-of.Post
+refusal-of-one k a x y e f p q = both p q
+
+ink-of-one : OneAnswer ink-of.Post
+ink-of-one k a x y e f p q = both p q
 
 row_one : OneAnswer row.Post
 row_one k a x y e f p q = both p.0 q.0

@@ -38,7 +38,7 @@ fn good_entries(plan: Plan, n: usize) -> bool
     true
 }
 
-fn good_sizes(width: u32, height: u32, count: usize) -> bool
+pub fn good_sizes(width: u32, height: u32, count: usize) -> bool
     ensures { result ≡ good_sizes width height count }
 {
     if width < 1 {
@@ -78,7 +78,7 @@ fn rows_refusal(good: bool, width: u32, height: u32, first: u32, count: u32, roo
     BAD_PLAN
 }
 
-fn refusal_of(good: bool, width: u32, height: u32, row: u32, room: usize) -> u8
+pub fn refusal_of(good: bool, width: u32, height: u32, row: u32, room: usize) -> u8
     ensures { result ≡ refusal_of good width height row room }
 {
     rows_refusal(good, width, height, row, 1, room)
@@ -94,7 +94,7 @@ fn inked(d: RGBA) -> u32
     0
 }
 
-fn ink_of(line: &[u8], n: usize) -> u32
+pub fn ink_of(line: &[u8], n: usize) -> u32
     requires { (n * 4 ≤ length line.now) × (n ≤ limit) }
     ensures { result ≡ ink n line.now }
 {

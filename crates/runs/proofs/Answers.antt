@@ -17,31 +17,31 @@ use Rattle.areas.specs.Areas.{Fits, flipped_on}
 use Rattle.moves.specs.Moves.{lowered_on}
 use Rattle.job.specs.declared.commands.Command.{Command}
 use Rattle.job.specs.declared.commands.Command.TheVariants.{Rectangle, Image, Margin, Flip}
-use Rattle.job.specs.Commands.{paper_width, paper_color, mode_of, Inside, Held}
-use Rattle.job.specs.Dropping.{reason_of, height_after, next_height, job_refusal, job_height, job_dropped, dropped_list, also_dropped}
+use Rattle.job.specs.Commands.{paper_width, paper_color}
+use Rattle.job.specs.Dropping.{reason_of, height_after, next_height, job_refusal, job_height, job_dropped}
+use Rattle.job.proofs.Soundness.{sane-rectangle, sane-image, Held}
 use Rattle.job.proofs.Reasons.{rectangle-kept, stretched-kept}
 use Rattle.entries.specs.declared.Entry.{Entry}
 use Rattle.entries.specs.Entries.{rectangle_entry, image_entry, good_entry}
 use Rattle.entries.specs.Steps.{entry_rows, Placed}
 use Rattle.entries.proofs.Good.{rectangle-good, image-good}
-use Rattle.refusals.specs.Refusals.{room_refusal, first_of}
+use Rattle.refusals.specs.Refusals.{first, room_refusal}
 use Rattle.thermal_image.specs.Canvas.{canvas, written, papered}
 use Rattle.thermal_image.proofs.Paper.{length-papered, papered-none, papered-run}
 use Rattle.runs.specs.declared.Ran.{Ran}
 use Rattle.runs.specs.declared.survey.Survey.{Survey}
 use Rattle.runs.specs.Pictures.{shown}
 use Rattle.runs.specs.Run.{run_refusal, run_picture, run_canvas, refused_run, ran, run_on}
-use Rattle.runs.specs.Steps.{seen, placed_on, obeyed_on, stepped_on, Room, survey}
-use Rattle.job.specs.declared.dropping.DroppedList.{DroppedList}
+use Rattle.runs.specs.Steps.{survey_with, left_out, reached, seen, placed_on, obeyed_on, stepped_on, Room}
 
 -- ---- the survey
 
 module _ (W : ℕ) (v : Survey) (k : ℕ) (d : Command) {why : ℕ} (e : why ≡ reason_of W v.height d) where
-  pub seen-out : (why ≡ done → ⊥) → {ds : DroppedList} → ds ≡ also_dropped v.dropped k why → survey v.height ds ≡ seen W v k d
+  pub seen-out : (why ≡ done → ⊥) → {r : Survey} → r ≡ left_out v k why → r ≡ seen W v k d
   unfolding seen
-  seen-out n g = rw (g, ne_eqb (reason_of W v.height d) done (λ z. n (e ∙ z)), e)
+  seen-out n g = g ∙ rw (ne_eqb (reason_of W v.height d) done (λ z. n (e ∙ z)), e)
 
-  pub seen-in : why ≡ done → {h : ℕ} → h ≡ height_after v.height d → survey h v.dropped ≡ seen W v k d
+  pub seen-in : why ≡ done → {h : ℕ} → h ≡ height_after v.height d → reached v h ≡ seen W v k d
   unfolding seen
   seen-in z g = rw (eq-eqb (reason_of W v.height d) done (sym e ∙ z), g) refl
 
@@ -124,19 +124,25 @@ module _ (s : List ℕ) (W : ℕ) (paper : RGBA) (H : ℕ) (l : List ℕ) (d : C
       -- what an entry asks for
       pub rectangle-asks : {x y w h mode : ℕ} {c : RGBA} → d ≡ Rectangle x y w h c mode → Held s d → {f : Entry} → f ≡ rectangle_entry W x y w h c mode
           → Room W (max H (f.y + f.h)) n × (good_entry W limit (length s) f ≡ true)
-      unfolding height_after rectangle_entry mode_of
+      unfolding height_after rectangle_entry
       rectangle-asks {x} {y} {w} {h} {mode} {c} q a p =
           let k = rectangle-kept W H kept_of q in
-          rw p (rw q at (kept-room r), rectangle-good W limit (length s) x y w h c mode k.on (rw q at a.mode) (omega (arith, k.fits)))
+          rw p (rw q at (kept-room r), rectangle-good W limit (length s) x y w h c mode k.on (mode_of (rw q at a)) (omega (arith, k.fits)))
+        where
+          mode_of : Held s (Rectangle x y w h c mode) → mode ≤ 1
+          mode_of (sane-rectangle b) = b
 
       pub image-asks : {x y w h sx sy mode start size : ℕ} {c : RGBA} → d ≡ Image x y w h sx sy c mode start size → Held s d → sx ≤ 255 → sy ≤ 255
           → {f : Entry} → f ≡ image_entry W x y w h (factor sx) (factor sy) c mode start → Room W (max H (f.y + f.h)) n × (good_entry W limit (length s) f ≡ true)
-      unfolding height_after image_entry mode_of Inside
+      unfolding height_after image_entry
       image-asks {x} {y} {w} {h} {sx} {sy} {mode} {start} {size} {c} q a bx by p =
           let k = stretched-kept W H kept_of q in
-          let room : start + size ≤ length s = rw q at a.inside in
+          let g = part_of (rw q at a) in
           rw p
-          (rw q at (kept-room r), image-good W limit (length s) x y w h c mode k.put.on (rw q at a.mode) sx sy start (omega (arith, k.put.fits)) bx by (omega (arith, room, k.bytes)))
+          (rw q at (kept-room r), image-good W limit (length s) x y w h c mode k.put.on g.0 sx sy start (omega (arith, k.put.fits)) bx by (omega (arith, g.1, k.bytes)))
+        where
+          part_of : Held s (Image x y w h sx sy c mode start size) → (mode ≤ 1) × (start + size ≤ length s)
+          part_of (sane-image b px py room) = (b, room)
 
       pub margin-room : {m : ℕ} → d ≡ Margin m → Room W (H + m) n
       unfolding height_after
@@ -160,26 +166,26 @@ flip_asks W H x y w h paper l r a e = let p = place-asks W H y h paper l r e in 
 
 module _ (s l : List ℕ) {number : ℕ} (e : number ≡ job_refusal s) where
   pub job-refused : (number ≡ done → ⊥) → {r : Ran} → r ≡ refused_run number → (r ≡ ran s (length l)) × (l ≡ run_on s l)
-  unfolding ran run_on run_refusal first_of written
+  unfolding ran run_on run_refusal first written
   job-refused n g = rw (← e, ne_eqb number done n) (rw (ne_eqb number done n) (g, refl))
 
   module _ (z : number ≡ done) {lacking : ℕ} (f : lacking ≡ room_refusal (paper_width s) (job_height s) (length l)) where
     found : run_refusal s (length l) ≡ lacking
-    unfolding run_refusal first_of
+    unfolding run_refusal first
     found = rw (← e, z, ← f) refl
 
     pub room-refused : (lacking ≡ done → ⊥) → {r : Ran} → r ≡ refused_run lacking → (r ≡ ran s (length l)) × (l ≡ run_on s l)
     unfolding ran run_on written
     room-refused n g = rw (found, ne_eqb lacking done n) (g, refl)
 
-    pub run-done : lacking ≡ done → {W : ℕ} {paper : RGBA} {v : Survey} {m : List ℕ} → W ≡ paper_width s → paper ≡ paper_color s → v ≡ survey (job_height s) (dropped_list (job_dropped s))
+    pub run-done : lacking ≡ done → {W : ℕ} {paper : RGBA} {v : Survey} {m : List ℕ} → W ≡ paper_width s → paper ≡ paper_color s → v ≡ survey_with (job_height s) (job_dropped s)
         → m ≡ shown (paper_width s) (job_height s) (run_picture s) l
-        → (◌≡◌ {A = Ran} (record { number = done; image = canvas W v.height true paper; dropped = v.dropped }) (ran s (length l))) × (m ≡ run_on s l)
+        → (◌≡◌ {A = Ran} (record { number = done; image = canvas W v.height true paper; dropped_count = v.dropped_count; dropped = v.dropped }) (ran s (length l))) × (m ≡ run_on s l)
     unfolding ran run_on written run_canvas
     run-done y a b c h = rw (found, y) (rw (a, b, c) refl, h)
 
 -- the room that was tried is that of the job's height
-pub tried : (s : List ℕ) (n : ℕ) {W lacking : ℕ} {v : Survey} → W ≡ paper_width s → v ≡ survey (job_height s) (dropped_list (job_dropped s)) → lacking ≡ room_refusal W v.height n → lacking ≡ room_refusal (paper_width s) (job_height s) n
+pub tried : (s : List ℕ) (n : ℕ) {W lacking : ℕ} {v : Survey} → W ≡ paper_width s → v ≡ survey_with (job_height s) (job_dropped s) → lacking ≡ room_refusal W v.height n → lacking ≡ room_refusal (paper_width s) (job_height s) n
 tried s n a c f = f ∙ rw (a, c) refl
 
 pub room-enough : (s : List ℕ) (n : ℕ) {lacking : ℕ} → lacking ≡ room_refusal (paper_width s) (job_height s) n → lacking ≡ done → paper_width s * job_height s * 4 ≤ n

@@ -1,27 +1,37 @@
 -- Inner steps of a run: what is made of the canvas's bytes at each command, and the survey before the first. W is the paper's width, H the height so far.
-use Rattle.std.specs.Prelude.{ℕ, ◌+◌, ◌*◌, ◌≤◌, max, List, if◌then◌else◌}
+use Rattle.std.specs.Prelude.{ℕ, ◌+◌, ◌*◌, ◌≤◌, max, List, length, set, if◌then◌else◌}
 use Rattle.numbers.specs.Numbers.{limit}
 use Rattle.colour.specs.declared.RGBA.{RGBA}
 use Rattle.images.specs.Stretching.{factor}
 use Rattle.areas.specs.Areas.{flipped_on}
 use Rattle.moves.specs.Moves.{lowered_on}
+use Rattle.job.specs.declared.dropping.Dropped.{Dropped}
 use Rattle.job.specs.declared.commands.Command.{Command}
 use Rattle.job.specs.declared.commands.Command.TheVariants.{Rectangle, Image, Margin, Flip}
-use Rattle.job.specs.Dropping.{reason_of, height_after, kept, also_dropped}
+use Rattle.job.specs.Dropping.{reason_of, height_after, kept, no_dropped, filled_up}
 use Rattle.entries.specs.declared.Entry.{Entry}
 use Rattle.entries.specs.Entries.{rectangle_entry, image_entry}
 use Rattle.entries.specs.Steps.{entry_rows}
 use Rattle.thermal_image.specs.Canvas.{papered}
 use Rattle.runs.specs.declared.survey.Survey.{Survey}
-use Rattle.job.specs.declared.dropping.DroppedList.{DroppedList}
 
 -- ---- the survey: the height and the dropped list so far
 
-abbrev pub survey : ℕ → DroppedList → Survey
-survey H dropped = record { height = H; dropped = dropped }
+abbrev pub survey_with : ℕ → List Dropped → Survey
+survey_with H ds = record { height = H; dropped_count = length ds; dropped = filled_up no_dropped ds }
+
+abbrev pub left_out : Survey → ℕ → ℕ → Survey
+left_out v k why = record {
+  height = v.height;
+  dropped_count = v.dropped_count + 1;
+  dropped = set v.dropped v.dropped_count (record { place = k; reason = why });
+}
+
+abbrev pub reached : Survey → ℕ → Survey
+reached v height = record { height = height; dropped_count = v.dropped_count; dropped = v.dropped }
 
 unfoldable pub seen : ℕ → Survey → ℕ → Command → Survey
-seen W v k c = if kept W v.height c then survey (height_after v.height c) v.dropped else survey v.height (also_dropped v.dropped k (reason_of W v.height c))
+seen W v k c = if kept W v.height c then reached v (height_after v.height c) else left_out v k (reason_of W v.height c)
 
 -- ---- the bytes
 

@@ -2,8 +2,9 @@
 // buffer; new rows are paper.
 ghost use Rattle.std.specs.Prelude.{◌≡◌, true, ◌+◌, ◌*◌, ◌≤◌, max, length};
 ghost use Rattle.numbers.specs.Numbers.{limit, done};
-ghost use Rattle.job.specs.Commands.{paper_width, Held};
+ghost use Rattle.job.specs.Commands.{paper_width};
 ghost use Rattle.job.specs.Dropping.{job_refusal, job_height, next_height};
+ghost use Rattle.job.proofs.Soundness.{Held};
 ghost use Rattle.entries.specs.Entries.{good_entry};
 ghost use Rattle.runs.specs.Pictures.{shown};
 ghost use Rattle.runs.specs.Run.{run_picture};
@@ -33,7 +34,7 @@ fn grow(buf: &mut [u8], width: u32, height: u32, end: u32, paper: RGBA) -> u32
     end
 }
 
-fn place_entry(buf: &mut [u8], width: u32, height: u32, paper: RGBA, e: Entry, s: &[u8]) -> u32
+fn place(buf: &mut [u8], width: u32, height: u32, paper: RGBA, e: Entry, s: &[u8]) -> u32
     requires { Room width (max height (e.y + e.h)) (length buf.old) × (good_entry width limit (length s.now) e ≡ true) }
     ensures value { result ≡ max height (e.y + e.h) }
     ensures buf_after { buf.new ≡ placed_on s.now width paper height e buf.old }
@@ -62,7 +63,7 @@ fn obey(buf: &mut [u8], width: u32, height: u32, paper: RGBA, c: Command, s: &[u
             mode,
         } => {
             let e = Entry::rectangle(width, x, y, w, h, color, mode);
-            place_entry(buf, width, height, paper, e, s)
+            place(buf, width, height, paper, e, s)
         }
         Command::Image {
             x,
@@ -77,7 +78,7 @@ fn obey(buf: &mut [u8], width: u32, height: u32, paper: RGBA, c: Command, s: &[u
             size: _,
         } => {
             let e = Entry::image(width, x, y, w, h, stretch_x, stretch_y, color, mode, start);
-            place_entry(buf, width, height, paper, e, s)
+            place(buf, width, height, paper, e, s)
         }
         Command::Margin(m) => {
             let wide = width as usize;

@@ -9,19 +9,21 @@ ghost use Rattle.runs.specs.Run.{ran, run_on, refused_run};
 
 use colour::RGBA;
 use draw::draw_all;
-use job::DroppedList;
+use job::Dropped;
 use numbers::DONE;
 use refusals::room_refusal;
 use survey::look_over;
 use thermal_image::ThermalImage;
 
-// What a run answers: the number, the canvas, and the dropped commands.
+// What a run answers: the number, the canvas, and the dropped commands, which are the first
+// `dropped_count`. All other places are zero.
 #[repr(C)]
 #[derive(Clone, Copy)]
 pub struct Ran {
     pub number: u8,
     pub image: ThermalImage,
-    pub dropped: DroppedList,
+    pub dropped_count: usize,
+    pub dropped: [Dropped; 64],
 }
 
 fn refused(number: u8) -> Ran
@@ -33,11 +35,14 @@ fn refused(number: u8) -> Ran
         auto_grow: false,
         paper_color: RGBA::BLANK,
     };
-    let dropped = DroppedList::none();
     Ran {
         number,
         image,
-        dropped,
+        dropped_count: 0,
+        dropped: [Dropped {
+            place: 0,
+            reason: 0,
+        }; 64],
     }
 }
 
@@ -69,6 +74,7 @@ pub fn run(s: &[u8], buf: &mut [u8]) -> Ran
     Ran {
         number: DONE,
         image,
+        dropped_count: v.dropped_count,
         dropped,
     }
 }

@@ -1,44 +1,60 @@
 // The height and the dropped commands of a job, before anything is drawn.
 ghost use Rattle.std.specs.Prelude.{◌≡◌, [], ◌<◌};
 ghost use Rattle.numbers.specs.Numbers.{done};
-ghost use Rattle.job.specs.Dropping.{job_refusal, job_height, job_dropped, most_commands, dropped_list};
-ghost use Rattle.runs.specs.Steps.{seen, survey};
+ghost use Rattle.job.specs.Dropping.{job_refusal, job_height, job_dropped};
+ghost use Rattle.runs.specs.Steps.{survey_with, left_out, seen};
 
 use job::kinds::COMMANDS_START;
-use job::{Command, DroppedList, Rec};
+use job::{Command, Dropped, Rec};
 use numbers::DONE;
 
 #[derive(Clone, Copy)]
 pub(crate) struct Survey {
     pub height: u32,
-    pub dropped: DroppedList,
+    pub dropped_count: usize,
+    pub dropped: [Dropped; 64],
 }
 
 fn nothing() -> Survey
-    ensures { result ≡ survey 0 (dropped_list []) }
+    ensures { result ≡ survey_with 0 [] }
 {
-    let dropped = DroppedList::none();
-    Survey { height: 0, dropped }
+    Survey {
+        height: 0,
+        dropped_count: 0,
+        dropped: [Dropped {
+            place: 0,
+            reason: 0,
+        }; 64],
+    }
+}
+
+fn leave_out(survey: Survey, place: u32, reason: u8) -> Survey
+    requires { survey.dropped_count < 64 }
+    ensures { result ≡ left_out survey place reason }
+{
+    let mut v = survey;
+    let n = v.dropped_count;
+    v.dropped[n] = Dropped { place, reason };
+    v.dropped_count = n + 1;
+    v
 }
 
 fn look_at(survey: Survey, width: u32, k: u32, c: Command) -> Survey
-    requires { survey.dropped.count < most_commands }
+    requires { survey.dropped_count < 64 }
     ensures { result ≡ seen width survey k c }
 {
     let why = job::command_reason(width, survey.height, c);
-    let mut v = survey;
     if why != DONE {
-        let dropped = v.dropped;
-        v.dropped = dropped.push(k, why);
-        return v;
+        return leave_out(survey, k, why);
     }
+    let mut v = survey;
     v.height = job::height_after(v.height, c);
     v
 }
 
 pub(crate) fn look_over(s: &[u8]) -> Survey
     requires { job_refusal s.now ≡ done }
-    ensures { result ≡ survey (job_height s.now) (dropped_list (job_dropped s.now)) }
+    ensures { result ≡ survey_with (job_height s.now) (job_dropped s.now) }
 {
     let width = job::paper_width(s);
     let mut v = nothing();

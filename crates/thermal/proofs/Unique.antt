@@ -31,9 +31,7 @@ use Rattle.thermal.proofs.draw.thermal_draw_border.Reads as draw-border
 use Rattle.thermal.proofs.jobs.thermal_run.Reads as run
 use Rattle.thermal.proofs.jobs.thermal_translate.Reads as translate
 use Rattle.thermal.proofs.jobs.thermal_row.Reads as row
-use Rattle.thermal.proofs.jobs.thermal_row_of_entries.Reads as row-of-entries
 use Rattle.thermal.proofs.jobs.thermal_rows.Reads as rows
-use Rattle.thermal.proofs.version.thermal_version.Reads as version
 
 with-alpha-one : OneAnswer with-alpha.Post
 with-alpha-one k a x y e f p q = both p q
@@ -185,17 +183,8 @@ row_one k a x y e f p q = both p.0 q.0
 row-content : OneContent row.Post (λ k e. e.1.1.1.0.now)
 row-content k a x y e f p q = both p.1 q.1
 
-row-of-entries-one : OneAnswer row-of-entries.Post
-row-of-entries-one k a x y e f p q = both p.0 q.0
-
-row-of-entries-content : OneContent row-of-entries.Post (λ k e. e.1.1.1.1.1.1.0.now)
-row-of-entries-content k a x y e f p q = both p.1 q.1
-
 rows-one : OneAnswer rows.Post
 rows-one k a x y e f p q = both p.0 q.0
 
 rows-content : OneContent rows.Post (λ k e. e.1.1.1.1.0.now)
 rows-content k a x y e f p q = both p.1 q.1
-
-version-one : OneAnswer version.Post
-version-one k a x y e f p q = both p q

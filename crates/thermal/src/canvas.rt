@@ -1,11 +1,11 @@
-// The canvas: each operation takes the record and gives the next one, but `thermal_get_height`, which
-// gives the height alone. Its dots are the first 4·width·height bytes of `buf`.
+// The canvas: each operation takes the record and gives the next one. Its dots are the first
+// 4·width·height bytes of `buf`.
 ghost use Rattle.std.specs.Prelude.{◌≡◌, length};
 ghost use Rattle.moves.specs.declared.turned.Turn.{Turn};
 ghost use Rattle.refusals.specs.Refusals.{rows_of};
 ghost use Rattle.thermal_image.specs.Canvas.{made_new, grown, grown_on, margined, margined_on, widened, widened_on, set_width, emptied, copied, copied_on, rgb, rgb_on, rotated, rotated_on};
 
-use thermal_image::{Answer, Output, ThermalImage};
+use thermal_image::{Answer, Copied, Rgb, ThermalImage};
 
 #[unsafe(no_mangle)]
 pub extern "C" fn thermal_new(width: u32) -> Answer
@@ -75,7 +75,7 @@ pub extern "C" fn thermal_reset(image: ThermalImage, buf: &[u8]) -> Answer
 }
 
 #[unsafe(no_mangle)]
-pub extern "C" fn thermal_copy(image: ThermalImage, buf: &[u8], out: &mut [u8]) -> Output
+pub extern "C" fn thermal_copy(image: ThermalImage, buf: &[u8], out: &mut [u8]) -> Copied
     ensures value { result ≡ copied image (length buf.now) (length out.old) }
     ensures out_after { out.new ≡ copied_on image buf.now out.old }
 {
@@ -83,7 +83,7 @@ pub extern "C" fn thermal_copy(image: ThermalImage, buf: &[u8], out: &mut [u8]) 
 }
 
 #[unsafe(no_mangle)]
-pub extern "C" fn thermal_consume_rgb_u8(image: ThermalImage, buf: &[u8], out: &mut [u8]) -> Output
+pub extern "C" fn thermal_consume_rgb_u8(image: ThermalImage, buf: &[u8], out: &mut [u8]) -> Rgb
     ensures value { result ≡ rgb image (length buf.now) (length out.old) }
     ensures out_after { out.new ≡ rgb_on image buf.now out.old }
 {

@@ -1,11 +1,10 @@
-// Jobs: a run on a canvas, and the row plan.
+// Jobs: a run on a canvas, and the row plan. The dropped commands of an answer are its first
+// `dropped_count`; a plan's entries are its first `count`.
 ghost use Rattle.std.specs.Prelude.{◌≡◌, length};
 ghost use Rattle.plan.specs.Plan.{translated};
-ghost use Rattle.rows.specs.Rows.{list_written, list_given, plan_written, plan_given, plan_rows_refusal, plan_rows_written};
+ghost use Rattle.rows.specs.Rows.{plan_written, plan_given, plan_rows_refusal, plan_rows_written};
 ghost use Rattle.runs.specs.Run.{ran, run_on};
 
-use colour::RGBA;
-use entries::Entry;
 use plan::{Plan, Translated};
 use rows::RowAnswer;
 use runs::Ran;
@@ -31,22 +30,6 @@ pub extern "C" fn thermal_row(plan: Plan, row: u32, data: &[u8], line: &mut [u8]
     ensures line_after { line.new ≡ plan_written «data».now plan row line.old }
 {
     rows::row(plan, row, data, line)
-}
-
-// An entry crosses as C's struct, so a list of them is its address and its length.
-#[unsafe(no_mangle)]
-pub extern "C" fn thermal_row_of_entries(
-    width: u32,
-    height: u32,
-    paper_color: RGBA,
-    entries: &[Entry],
-    row: u32,
-    data: &[u8],
-    line: &mut [u8],
-) -> RowAnswer
-    ensures { (result ≡ list_given «data».now width height paper_color entries.now row line.old) × (line.new ≡ list_written «data».now width height paper_color entries.now row line.old) }
-{
-    lists::row_of_entries(width, height, paper_color, entries, row, data, line)
 }
 
 #[unsafe(no_mangle)]

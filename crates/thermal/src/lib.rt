@@ -7,4 +7,3 @@ pub mod colours;
 pub mod decoders;
 pub mod draw;
 pub mod jobs;
-pub mod version;

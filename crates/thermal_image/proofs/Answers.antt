@@ -6,7 +6,7 @@ use borrow.Author.Tests.{ne_eqb}
 use Rattle.numbers.specs.Numbers.{done}
 use Rattle.thermal_image.specs.declared.ThermalImage.{ThermalImage}
 use Rattle.thermal_image.specs.declared.Answer.{Answer}
-use Rattle.thermal_image.specs.Canvas.{finished, answered, written}
+use Rattle.thermal_image.specs.Canvas.{sized, finished, answered, written, copy_answer, rgb_answer}
 
 module _ {number k : ℕ} (e : number ≡ k) where
   pub refused : (t next : ThermalImage) → (number ≡ done → ⊥) → record { number = number; image = t } ≡ answered k t next
@@ -24,3 +24,20 @@ module _ {number k : ℕ} (e : number ≡ k) where
   pub changed : (l next : List ℕ) → number ≡ done → {m : List ℕ} → m ≡ next → m ≡ written k l next
   unfolding written
   changed l next n em = em ∙ rw (← e, n)
+
+  pub copy-refused : (t : ThermalImage) → (number ≡ done → ⊥) → record { number = number; width = 0; height = 0 } ≡ copy_answer k t
+  unfolding copy_answer
+  copy-refused t n = rw (← e, ne_eqb number done n)
+
+  pub copy-did : (t : ThermalImage) → number ≡ done → record { number = done; width = t.width; height = t.height } ≡ copy_answer k t
+  unfolding copy_answer
+  copy-did t n = rw (← e, n)
+
+  pub rgb-refused : (t : ThermalImage) → (number ≡ done → ⊥) → record { number = number; image = t; width = 0; height = 0 } ≡ rgb_answer k t
+  unfolding rgb_answer
+  rgb-refused t n = rw (← e, ne_eqb number done n)
+
+  pub rgb-did : (t : ThermalImage) → number ≡ done → {a : Answer} → a ≡ finished (sized t 0 0)
+      → record { number = done; image = a.image; width = t.width; height = t.height } ≡ rgb_answer k t
+  unfolding rgb_answer
+  rgb-did t n ea = rw (ea, ← e, n)

@@ -1,4 +1,4 @@
--- What growing and a margin come to: the height, and the dot at (x, y); and the sides that a turn comes to. Assumes nothing.
+-- What growing and a margin come to: the height, and the dot at (x, y). Assumes nothing.
 use mathlib.Core.Path.{◌≡◌, refl, ap, ◌∙◌}
 use mathlib.Core.Bool.{Bool, true, false}
 use mathlib.Core.List.{List}
@@ -12,14 +12,12 @@ use Rattle.std.specs.Prelude.{if◌then◌else◌}
 use Rattle.dots.specs.Dots.{dot_at}
 use Rattle.moves.specs.Moves.{lowered_on}
 use Rattle.moves.proofs.Laws.{lowered-paper, lowered-dot}
-use Rattle.moves.proofs.Turns.{in-picture, quarter-wide, half-wide}
+use Rattle.moves.proofs.Turns.{in-picture}
 use Rattle.thermal_image.specs.declared.ThermalImage.{ThermalImage}
-use Rattle.thermal_image.specs.Canvas.{sized, finished, answered, written, papered, grown, grown_on, margined, margined_on, rotated}
-use Rattle.refusals.specs.Refusals.{grow_refusal, margin_refusal, rows_of, out_refusal}
-use Rattle.refusals.proofs.Codes.{rows-some, grow-done, margin-done, rows_all, out-done}
+use Rattle.thermal_image.specs.Canvas.{sized, finished, answered, written, papered, grown, grown_on, margined, margined_on}
+use Rattle.refusals.specs.Refusals.{grow_refusal, margin_refusal}
+use Rattle.refusals.proofs.Codes.{rows-some, grow-done, margin-done}
 use Rattle.thermal_image.proofs.Paper.{more_rows, papered-kept, papered-new}
-use Rattle.moves.specs.Steps.{quarter}
-use Rattle.moves.specs.declared.turned.Turn.TheVariants.{Half}
 
 module _ (t : ThermalImage) where
   abbrev pub at : ℕ → ℕ → ℕ
@@ -82,21 +80,3 @@ module _ (t : ThermalImage) where
         rw (margin-lowered rows l e) (
         lowered-dot _ _ _ l (at x (rows + y)) (omega arith) (omega arith) (omega (arith, f.room, mul-add t.width t.height rows)) ∙ ap (dot_at l) (omega arith)
         )
-
-  -- ---- a turn
-
-  module _ (n room : ℕ) (e : out_refusal t.width t.height n room ≡ done) where
-    -- by a quarter, to the right or to the left, W and H change places ..
-    pub quarter-sides : (left : Bool) → 0 < t.height → rotated (quarter left) t n room ≡ finished (sized t t.height t.width)
-    unfolding rotated answered
-    quarter-sides left h = rw (e, quarter-wide left t.width t.height, quarter-wide left t.height t.width, rows-some t.height t.width h) refl
-
-    -- .. except that H = 0 gives W = H = 0
-    pub quarter-none : (left : Bool) → t.height ≡ 0 → rotated (quarter left) t n room ≡ finished (sized t 0 0)
-    unfolding rotated answered rows_of
-    quarter-none left h = rw (e, quarter-wide left t.width t.height, h) refl
-
-    -- by a half they stay
-    pub half-sides : rotated Half t n room ≡ finished t
-    unfolding rotated answered
-    half-sides = rw (e, half-wide t.width t.height, half-wide t.height t.width, rows_all t.width t.height (out-done _ _ n room e).0.flat) refl

@@ -1,5 +1,4 @@
 pub mod Paper
 pub mod Laws
 pub mod Answers
-mod Examples
 mod Unique

@@ -9,7 +9,8 @@ use Rattle.moves.specs.Moves.{lowered_on, padded_on, copied_to, rgb_to, turned_w
 use Rattle.refusals.specs.Refusals.{canvas_refusal, wide_refusal, rows_of, grow_refusal, margin_refusal, widen_refusal, width_refusal, out_refusal, rgb_refusal}
 use Rattle.thermal_image.specs.declared.ThermalImage.{ThermalImage}
 use Rattle.thermal_image.specs.declared.Answer.{Answer}
-use Rattle.thermal_image.specs.declared.Output.{Output}
+use Rattle.thermal_image.specs.declared.Copied.{Copied}
+use Rattle.thermal_image.specs.declared.Rgb.{Rgb}
 
 -- ---- records
 
@@ -77,24 +78,27 @@ emptied t n = answered (canvas_refusal t.width t.height n) t (sized t t.width 0)
 
 -- ---- writing to a second buffer, of `room` bytes. Order 9, 1. The canvas's own bytes stay
 
--- done with a canvas, and W and H of what is written out; or refused with the canvas as given, and zero in all else
-unfoldable pub written_out : ℕ → ThermalImage → ThermalImage → Output
-written_out number t next =
-    if eqb number done then record { number = done; image = next; width = t.width; height = t.height }
-    else record { number = number; image = t; width = 0; height = 0 }
+-- `copy` writes out the dots, and answers W and H
 
--- `copy` writes out the dots; the canvas stays
+unfoldable pub copy_answer : ℕ → ThermalImage → Copied
+copy_answer number t =
+    if eqb number done then record { number = done; width = t.width; height = t.height } else record { number = number; width = 0; height = 0 }
 
-unfoldable pub copied : ThermalImage → ℕ → ℕ → Output
-copied t n room = written_out (out_refusal t.width t.height n room) t t
+unfoldable pub copied : ThermalImage → ℕ → ℕ → Copied
+copied t n room = copy_answer (out_refusal t.width t.height n room) t
 
 unfoldable pub copied_on : ThermalImage → List ℕ → List ℕ → List ℕ
 copied_on t l out = written (out_refusal t.width t.height (length l) (length out)) out (copied_to (t.width * t.height) l out)
 
--- RGB output writes 3 bytes a dot; the canvas then has W = H = 0
+-- RGB output writes 3 bytes a dot and answers W and H; the canvas then has W = H = 0
 
-unfoldable pub rgb : ThermalImage → ℕ → ℕ → Output
-rgb t n room = written_out (rgb_refusal t.width t.height n room) t (sized t 0 0)
+unfoldable pub rgb_answer : ℕ → ThermalImage → Rgb
+rgb_answer number t =
+    if eqb number done then record { number = done; image = sized t 0 0; width = t.width; height = t.height }
+    else record { number = number; image = t; width = 0; height = 0 }
+
+unfoldable pub rgb : ThermalImage → ℕ → ℕ → Rgb
+rgb t n room = rgb_answer (rgb_refusal t.width t.height n room) t
 
 unfoldable pub rgb_on : ThermalImage → List ℕ → List ℕ → List ℕ
 rgb_on t l out = written (rgb_refusal t.width t.height (length l) (length out)) out (rgb_to (t.width * t.height) l out)

@@ -1,12 +1,11 @@
 // The canvas, as in the Rust's thermal_image.rs: a record by value, and its dots in a buffer that
-// the caller lends. Every operation takes the record and hands the next one back; `get_height` tells
-// the height alone.
+// the caller lends. Every operation that may change it takes the record and hands the next one back.
 #![tactic(auto)]
 
 mod sizes;
 
 ghost use Rattle.std.specs.Prelude.{◌≡◌, length};
-ghost use Rattle.thermal_image.specs.Canvas.{sized, finished, made_new, grown, grown_on, margined, margined_on, widened, widened_on, set_width, emptied, copied, copied_on, rgb, rgb_on, rotated, rotated_on, written_out};
+ghost use Rattle.thermal_image.specs.Canvas.{sized, finished, made_new, grown, grown_on, margined, margined_on, widened, widened_on, set_width, emptied, copied, copied_on, rgb, rgb_on, rotated, rotated_on};
 ghost use Rattle.refusals.specs.Refusals.{rows_of};
 ghost use Rattle.moves.specs.declared.turned.Turn.{Turn};
 
@@ -38,10 +37,19 @@ pub struct Answer {
     pub image: ThermalImage,
 }
 
-// What `copy` and RGB output answer: the number, the canvas, and the width and height written.
+// What `copy` answers: the number, and the width and height of the dots written.
 #[repr(C)]
 #[derive(Clone, Copy)]
-pub struct Output {
+pub struct Copied {
+    pub number: u8,
+    pub width: u32,
+    pub height: u32,
+}
+
+// What RGB output answers: the number, the canvas, and the width and height written.
+#[repr(C)]
+#[derive(Clone, Copy)]
+pub struct Rgb {
     pub number: u8,
     pub image: ThermalImage,
     pub width: u32,
@@ -195,52 +203,50 @@ impl ThermalImage {
         self.empty(buf)
     }
 
-    // What writing out answers: done, with the next canvas, or refused.
-    fn written_out(self, number: u8, next: ThermalImage) -> Output
-        ensures { result ≡ written_out number self next }
+    pub fn copy(self, buf: &[u8], out: &mut [u8]) -> Copied
+        ensures value { result ≡ copied self (length buf.now) (length out.old) }
+        ensures out_after { out.new ≡ copied_on self buf.now out.old }
     {
+        let number = out_refusal(self.width, self.height, buf.len(), out.len());
         if number != DONE {
-            return Output {
+            return Copied {
+                number,
+                width: 0,
+                height: 0,
+            };
+        }
+        let dots = self.width as usize * self.height as usize;
+        copy_dots(buf, dots, out);
+        Copied {
+            number: DONE,
+            width: self.width,
+            height: self.height,
+        }
+    }
+
+    pub fn consume_rgb_u8(self, buf: &[u8], out: &mut [u8]) -> Rgb
+        ensures value { result ≡ rgb self (length buf.now) (length out.old) }
+        ensures out_after { out.new ≡ rgb_on self buf.now out.old }
+    {
+        let number = rgb_refusal(self.width, self.height, buf.len(), out.len());
+        if number != DONE {
+            return Rgb {
                 number,
                 image: self,
                 width: 0,
                 height: 0,
             };
         }
-        Output {
+        let dots = self.width as usize * self.height as usize;
+        rgb_bytes(buf, dots, out);
+        let answer = self.sized(0, 0);
+        let image = answer.image;
+        Rgb {
             number: DONE,
-            image: next,
+            image,
             width: self.width,
             height: self.height,
         }
-    }
-
-    pub fn copy(self, buf: &[u8], out: &mut [u8]) -> Output
-        ensures value { result ≡ copied self (length buf.now) (length out.old) }
-        ensures out_after { out.new ≡ copied_on self buf.now out.old }
-    {
-        let number = out_refusal(self.width, self.height, buf.len(), out.len());
-        if number != DONE {
-            return self.written_out(number, self);
-        }
-        let dots = self.width as usize * self.height as usize;
-        copy_dots(buf, dots, out);
-        self.written_out(DONE, self)
-    }
-
-    pub fn consume_rgb_u8(self, buf: &[u8], out: &mut [u8]) -> Output
-        ensures value { result ≡ rgb self (length buf.now) (length out.old) }
-        ensures out_after { out.new ≡ rgb_on self buf.now out.old }
-    {
-        let number = rgb_refusal(self.width, self.height, buf.len(), out.len());
-        let answer = self.sized(0, 0);
-        let next = answer.image;
-        if number != DONE {
-            return self.written_out(number, next);
-        }
-        let dots = self.width as usize * self.height as usize;
-        rgb_bytes(buf, dots, out);
-        self.written_out(DONE, next)
     }
 
     pub fn rotate_90(self, buf: &[u8], out: &mut [u8]) -> Answer

@@ -1,7 +1,6 @@
-//! The canvas: each operation takes the record and gives the next one, but `get_height`, which gives
-//! the height alone.
+//! The canvas: each operation takes the record and gives the next one.
 
-use super::{Answer, Output, ThermalImage};
+use super::{Answer, Copied, Rgb, ThermalImage};
 use crate::error::{done, Error};
 use crate::raw;
 
@@ -48,30 +47,14 @@ impl ThermalImage {
         unsafe { raw::thermal_reset(self, buf.as_ptr(), buf.len()) }
     }
 
-    /// Writes out the dots, and leaves the canvas as it is.
-    ///
-    /// ```
-    /// use thermal::lent::ThermalImage;
-    /// use thermal::Error;
-    ///
-    /// let mut buf = [9; 8];
-    /// let image = ThermalImage::new(1).done()?.expand_to_height(2, &mut buf).done()?;
-    /// let mut out = [0; 8];
-    /// assert_eq!(image.copy(&buf, &mut out).done(), Ok((image, 1, 2)));
-    /// assert_eq!(out, buf);
-    ///
-    /// let refused = image.copy(&buf, &mut out[..7]);
-    /// assert_eq!((refused.number, refused.image), (Error::NoRoom.number(), image));
-    /// assert_eq!((refused.width, refused.height), (0, 0));
-    /// # Ok::<(), Error>(())
-    /// ```
-    pub fn copy(self, buf: &[u8], out: &mut [u8]) -> Output {
+    /// Writes out the dots.
+    pub fn copy(self, buf: &[u8], out: &mut [u8]) -> Copied {
         let (b, n) = (buf.as_ptr(), buf.len());
         unsafe { raw::thermal_copy(self, b, n, out.as_mut_ptr(), out.len()) }
     }
 
     /// Writes out the dots, three bytes each, and leaves a canvas without width and height.
-    pub fn consume_rgb_u8(self, buf: &[u8], out: &mut [u8]) -> Output {
+    pub fn consume_rgb_u8(self, buf: &[u8], out: &mut [u8]) -> Rgb {
         let (b, n) = (buf.as_ptr(), buf.len());
         unsafe { raw::thermal_consume_rgb_u8(self, b, n, out.as_mut_ptr(), out.len()) }
     }
@@ -102,7 +85,14 @@ impl Answer {
     }
 }
 
-impl Output {
+impl Copied {
+    /// Width and height of what is written.
+    pub fn done(self) -> Result<(u32, u32), Error> {
+        done(self.number, (self.width, self.height))
+    }
+}
+
+impl Rgb {
     /// The next canvas, and width and height of what is written.
     pub fn done(self) -> Result<(ThermalImage, u32, u32), Error> {
         done(self.number, (self.image, self.width, self.height))

@@ -2,9 +2,8 @@
 
 use super::{Plan, Ran, RowAnswer, ThermalImage, Translated};
 use crate::error::{done, Error};
-use crate::job::{Dropped, Entry};
+use crate::job::Dropped;
 use crate::raw;
-use crate::Rgba;
 
 // SAFETY, in all of these: each address and length are those of a slice that is lent for the call.
 
@@ -25,42 +24,6 @@ pub fn row(plan: &Plan, row: u32, data: &[u8], line: &mut [u8]) -> RowAnswer {
     unsafe { raw::thermal_row(*plan, row, data.as_ptr(), data.len(), l, n) }
 }
 
-/// The same row of a plan of these sizes and this paper with the entries of a list. More than 64
-/// entries are refused.
-///
-/// ```
-/// use thermal::{job::Plan, lent, Error};
-/// # let job = [
-/// #     10, 0, 0, 0, 1, 0, 10, 0, 0, 0, 255, 255, 255, 255,
-/// #     23, 0, 0, 0, 2, 0, 8, 0, 0, 0, 1, 0, 0, 0, 5, 0, 0, 0, 1, 0, 0, 0, 0, 0, 0, 255, 1,
-/// # ];
-/// let plan = Plan::translate(&job)?;
-/// let (w, h, paper) = (plan.width, plan.height, plan.paper_color);
-/// let mut dots = [0; 40];
-/// let row = lent::row_of_entries(w, h, paper, plan.entries(), 1, &job, &mut dots);
-/// assert_eq!(row.done()?, 2);
-/// assert_eq!(dots[..], plan.row(1, &job)?.dots);
-///
-/// let many = [plan.entries[0]; 65];
-/// let row = lent::row_of_entries(w, h, paper, &many, 1, &job, &mut dots);
-/// assert_eq!(row.done(), Err(Error::BadPlan));
-/// # Ok::<(), Error>(())
-/// ```
-pub fn row_of_entries(
-    width: u32,
-    height: u32,
-    paper_color: Rgba,
-    entries: &[Entry],
-    row: u32,
-    data: &[u8],
-    line: &mut [u8],
-) -> RowAnswer {
-    let (e, count) = (entries.as_ptr(), entries.len());
-    let (l, n) = (line.as_mut_ptr(), line.len());
-    let (d, size) = (data.as_ptr(), data.len());
-    unsafe { raw::thermal_row_of_entries(width, height, paper_color, e, count, row, d, size, l, n) }
-}
-
 /// Writes out `count` rows of a plan from row `first` on, one after the other, and gives the number.
 /// `data` is the job that it is of.
 pub fn rows(plan: &Plan, first: u32, count: u32, data: &[u8], buf: &mut [u8]) -> u8 {
@@ -71,7 +34,7 @@ pub fn rows(plan: &Plan, first: u32, count: u32, data: &[u8], buf: &mut [u8]) ->
 impl Ran {
     /// The dropped commands, in order.
     pub fn dropped(&self) -> &[Dropped] {
-        self.dropped.commands()
+        &self.dropped[..self.dropped_count]
     }
 
     /// The canvas.

@@ -20,10 +20,19 @@ pub struct Answer {
     pub image: ThermalImage,
 }
 
-/// The number of a copy or an RGB output, the next canvas, and the sizes of what is written out.
+/// The number of a copy, and the sizes of what is written out.
 #[repr(C)]
 #[derive(Clone, Copy, Debug, PartialEq, Eq)]
-pub struct Output {
+pub struct Copied {
+    pub number: u8,
+    pub width: u32,
+    pub height: u32,
+}
+
+/// The number of an RGB output, the next canvas, and the sizes of what is written out.
+#[repr(C)]
+#[derive(Clone, Copy, Debug, PartialEq, Eq)]
+pub struct Rgb {
     pub number: u8,
     pub image: ThermalImage,
     pub width: u32,
@@ -65,14 +74,14 @@ unsafe extern "C" {
         length: usize,
         out: *mut u8,
         out_length: usize,
-    ) -> Output;
+    ) -> Copied;
     pub fn thermal_consume_rgb_u8(
         image: ThermalImage,
         buf: *const u8,
         length: usize,
         out: *mut u8,
         out_length: usize,
-    ) -> Output;
+    ) -> Rgb;
     pub fn thermal_rotate_90(
         image: ThermalImage,
         buf: *const u8,

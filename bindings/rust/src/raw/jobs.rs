@@ -13,21 +13,14 @@ pub struct Dropped {
     pub reason: u8,
 }
 
-/// The dropped commands of a job, in order: the first `count`. All other places are zero.
-#[repr(C)]
-#[derive(Clone, Copy, Debug, PartialEq, Eq)]
-pub struct DroppedList {
-    pub count: usize,
-    pub list: [Dropped; MOST_COMMANDS],
-}
-
-/// A run's number, the canvas, and the dropped commands.
+/// A run's number, the canvas, and the dropped commands, which are the first `dropped_count`.
 #[repr(C)]
 #[derive(Clone, Copy, Debug, PartialEq, Eq)]
 pub struct Ran {
     pub number: u8,
     pub image: ThermalImage,
-    pub dropped: DroppedList,
+    pub dropped_count: usize,
+    pub dropped: [Dropped; MOST_COMMANDS],
 }
 
 /// An entry of a plan: a rectangle or an image in its place, cropped. A rectangle has zero in the
@@ -50,7 +43,8 @@ pub struct Entry {
     pub start: usize,
 }
 
-/// A row plan. Its entries are the first `count`; all other places are zero.
+/// A row plan. Its entries are the first `count`, and its dropped commands the first
+/// `dropped_count`; all other places are zero.
 #[repr(C)]
 #[derive(Clone, Copy, Debug, PartialEq, Eq)]
 pub struct Plan {
@@ -59,7 +53,8 @@ pub struct Plan {
     pub paper_color: Rgba,
     pub count: usize,
     pub entries: [Entry; MOST_COMMANDS],
-    pub dropped: DroppedList,
+    pub dropped_count: usize,
+    pub dropped: [Dropped; MOST_COMMANDS],
 }
 
 /// A translation's number, and the plan.
@@ -83,18 +78,6 @@ unsafe extern "C" {
     pub fn thermal_translate(job: *const u8, job_length: usize) -> Translated;
     pub fn thermal_row(
         plan: Plan,
-        row: u32,
-        data: *const u8,
-        data_length: usize,
-        line: *mut u8,
-        length: usize,
-    ) -> RowAnswer;
-    pub fn thermal_row_of_entries(
-        width: u32,
-        height: u32,
-        paper_color: Rgba,
-        entries: *const Entry,
-        entries_length: usize,
         row: u32,
         data: *const u8,
         data_length: usize,

@@ -1,12 +1,12 @@
 -- `listing::refused_line` meets its contract. Assumes nothing.
 use Rattle.listing.specs.Listing.{ascii, part, refused_line}
 use Rattle.listing.proofs.Lines.{Begun, begun-none, begun_more, line_refused, line-put, refused-size, refused-parts}
-use Rattle.listing.proofs.refused_line.Goals.{After-slice_known-2-1}
 use Rattle.listing.proofs.refused_line.Goals as goal
+use Rattle.listing.proofs.refused_line.Goals.{After-slice_known-2-1}
 
-begun : (c : After-slice_known-2-1) → let a = c.args in Begun 0 (part "refused " a.number) a.out.now c.put_part-a.new.out c.put_part-a.result
+begun : (c : After-slice_known-2-1) → let a = c.args in Begun (part "refused " a.number) a.out.now c.put_part-a.new.out c.put_part-a.result
 unfolding part ascii
-begun c = let a = c.args in begun_more (begun-none 0 a.out.now) (part "refused " a.number) c.put_part-a.ensures.value c.put_part-a.ensures.out_after
+begun c = let a = c.args in begun_more (begun-none a.out.now) (part "refused " a.number) c.put_part-a.ensures.value c.put_part-a.ensures.out_after
 
 pub returns-then-out-size : goal.returns-then-out-size
 returns-then-out-size c =

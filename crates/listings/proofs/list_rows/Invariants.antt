@@ -4,8 +4,8 @@ use Prim.Native.Nat.{◌-◌}
 use lib.ListN.{length}
 use Rattle.listings.proofs.list_rows.Given as goal
 
-abbrev pub invariant-loop-plan : goal.invariant-loop-plan
-invariant-loop-plan l = length l.block ≡ length l.initial.block
+abbrev pub invariant-loop-row : goal.invariant-loop-row
+invariant-loop-row l = (length l.line ≡ length l.initial.line) × (length l.text ≡ length l.initial.text)
 
-abbrev pub decreases-loop-plan : goal.decreases-loop-plan
-decreases-loop-plan l = l.plan.height - l.row
+abbrev pub decreases-loop-row : goal.decreases-loop-row
+decreases-loop-row l = l.plan.height - l.row

@@ -5,4 +5,4 @@ use Rattle.plan.proofs.fresh.Goals as goal
 
 pub returns : goal.returns
 unfolding filled_up
-returns c = rw (c.no_entry.ensures, c.none-dropped.ensures) refl
+returns c = rw c.no_entry.ensures refl

@@ -1,13 +1,12 @@
-use mathlib.Core.Path.{sym, ◌∙◌, ap}
+use mathlib.Core.Path.{sym, ◌∙◌}
 use native.Mathlib.Omega.{arith}
 use Rattle.job.proofs.Found.{found}
-use Rattle.job.proofs.Walk.{good, walk_start, walk-bad}
-use Rattle.plan.proofs.Going.{searched-next, searched-found, searched-end}
-use Rattle.plan.specs.Plan.{has_flip}
+use Rattle.job.proofs.Walk.{good}
+use Rattle.plan.proofs.Going.{searched-start, searched-next, searched-found, searched-end, searched-bad}
 use Rattle.plan.proofs.has_flip.Goals as goal
 
 pub loop-kind-init : goal.loop-kind-init
-loop-kind-init c = let g = good _ c.requires in walk_start _ g (ap has_flip g.commands)
+loop-kind-init c = searched-start _ (good _ c.requires)
 
 pub returns-then-kind-eq-FLIP : goal.returns-then-kind-eq-FLIP
 returns-then-kind-eq-FLIP c =
@@ -21,8 +20,7 @@ loop-kind-preserved c =
     let l = c.loop-kind in searched-next _ l.at l.invariant (sym c.in-Record.is ∙ c.next_record.ensures) c.if-kind-eq-FLIP.false
 
 pub returns-in-Bad : goal.returns-in-Bad
-returns-in-Bad c =
-    let l = c.loop-kind in absurd (walk-bad _ l.at l.invariant (sym c.in-Bad.is ∙ c.next_record.ensures))
+returns-in-Bad c = let l = c.loop-kind in searched-bad _ l.at l.invariant (sym c.in-Bad.is ∙ c.next_record.ensures)
 
 pub returns-in-End : goal.returns-in-End
 returns-in-End c = let l = c.loop-kind in searched-end _ l.at l.invariant (sym c.in-End.is ∙ c.next_record.ensures)

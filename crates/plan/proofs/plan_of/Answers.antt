@@ -1,8 +1,8 @@
 use mathlib.Core.Path.{sym, ◌∙◌}
 use native.Mathlib.Omega.{arith}
 use Rattle.job.proofs.Found.{found}
-use Rattle.job.proofs.Walk.{good, walk-bad, walk-sound}
-use Rattle.plan.proofs.Going.{going_start, going_end, going-few, going-ready, going_next}
+use Rattle.job.proofs.Walk.{good}
+use Rattle.plan.proofs.Going.{going_start, going-bad, going_end, going-sound, going-few, going-ready, going_next}
 use Rattle.plan.proofs.Answers.{plan-with}
 use Rattle.plan.proofs.plan_of.Goals as goal
 
@@ -20,7 +20,7 @@ pub command_at-c-requires : goal.command_at-c-requires
 command_at-c-requires c =
     let l = c.loop-kind in
     let e = (sym c.in-Record.is ∙ c.next_record.ensures) in
-    (omega (arith, found _ _ e), walk-sound _ l.at l.invariant e)
+    (omega (arith, found _ _ e), going-sound _ l.p l.k l.at l.invariant e)
 
 pub step-p-requires : goal.step-p-requires
 step-p-requires c =
@@ -39,7 +39,7 @@ loop-kind-preserved c =
 
 pub returns-in-Bad : goal.returns-in-Bad
 returns-in-Bad c =
-    let l = c.loop-kind in absurd (walk-bad _ l.at l.invariant (sym c.in-Bad.is ∙ c.next_record.ensures))
+    let l = c.loop-kind in absurd (going-bad _ l.p l.k l.at l.invariant (sym c.in-Bad.is ∙ c.next_record.ensures))
 
 pub returns-in-End : goal.returns-in-End
 returns-in-End c =

@@ -6,4 +6,4 @@ use Rattle.refusals.proofs.grow_refusal.Goals as goal
 pub returns : goal.returns
 unfolding grow_refusal
 returns c =
-    c.first_of.ensures ∙ rw (c.room_refusal.ensures, c.larger_side.ensures, c.first_of-number.ensures, c.tall_refusal.ensures, c.canvas_refusal.ensures)
+    c.first.ensures ∙ rw (c.room_refusal.ensures, c.larger_side.ensures, c.first-number.ensures, c.tall_refusal.ensures, c.canvas_refusal.ensures)

@@ -5,4 +5,4 @@ use Rattle.refusals.proofs.out_refusal.Goals as goal
 
 pub returns : goal.returns
 unfolding out_refusal
-returns c = c.first_of.ensures ∙ rw (c.room_refusal.ensures, c.canvas_refusal.ensures)
+returns c = c.first.ensures ∙ rw (c.room_refusal.ensures, c.canvas_refusal.ensures)

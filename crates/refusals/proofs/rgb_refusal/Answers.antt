@@ -5,4 +5,4 @@ use Rattle.refusals.proofs.rgb_refusal.Goals as goal
 
 pub returns : goal.returns
 unfolding rgb_refusal
-returns c = c.first_of.ensures ∙ rw (c.rgb_room_refusal.ensures, c.canvas_refusal.ensures)
+returns c = c.first.ensures ∙ rw (c.rgb_room_refusal.ensures, c.canvas_refusal.ensures)

@@ -12,4 +12,4 @@ returns-then-width-w c = rw (le-leb _ _ c.if-width-w.true) (c.width_refusal-numb
 pub returns : goal.returns
 unfolding widen_refusal
 returns c =
-    rw (lt-leb _ _ c.if-width-w.false) (c.first_of.ensures ∙ rw (c.room_refusal.ensures, c.width_refusal-number.ensures))
+    rw (lt-leb _ _ c.if-width-w.false) (c.first.ensures ∙ rw (c.room_refusal.ensures, c.width_refusal-number.ensures))

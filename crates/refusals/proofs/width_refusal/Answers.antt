@@ -5,4 +5,4 @@ use Rattle.refusals.proofs.width_refusal.Goals as goal
 
 pub returns : goal.returns
 unfolding width_refusal
-returns c = c.first_of.ensures ∙ rw (c.wide_refusal.ensures, c.canvas_refusal.ensures)
+returns c = c.first.ensures ∙ rw (c.wide_refusal.ensures, c.canvas_refusal.ensures)

@@ -1,6 +1,8 @@
 -- `runs::refused` meets its contract. Assumes nothing.
 use mathlib.Core.Path.{refl}
+use Rattle.job.specs.Dropping.{filled_up}
 use Rattle.runs.proofs.refused.Goals as goal
 
 pub returns : goal.returns
-returns c = rw c.none-dropped.ensures refl
+unfolding filled_up
+returns c = refl

@@ -1,9 +1,9 @@
 -- `colour::channel::blend_channel` meets its contract. Assumes nothing.
-use Rattle.std.proofs.Common.{◌+◌, ◌-◌, ◌*◌, ◌≤◌, mul-le-mul_right, arith, ◌∙◌, add-sub_cancel}
+use Rattle.std.proofs.Common.{◌+◌, ◌-◌, ◌*◌, ◌≤◌, mul-le-mul_right, arith}
 use Rattle.colour.specs.Channel.{blend_byte}
 use Rattle.colour.proofs.Laws.{by-256}
-use Rattle.colour.proofs.channel.blend_channel.Goals.{Start}
 use Rattle.colour.proofs.channel.blend_channel.Goals as goal
+use Rattle.colour.proofs.channel.blend_channel.Goals.{Start}
 
 low : (c : Start) → c.args.c * c.args.a ≤ 255 * c.args.a
 low c = mul-le-mul_right c.args.a (omega arith)
@@ -31,6 +31,4 @@ overflow_cast-result c = omega (arith, low (goal.at.overflow_cast-result c).Star
 
 pub returns : goal.returns
 unfolding blend_byte
-returns c =
-    let n = c.args.c * c.args.a + c.args.s * (255 - c.args.a) in
-    by-256 (n + 128) (omega (arith, low (goal.at.returns c).Start, high (goal.at.returns c).Start)) ∙ rw (add-sub_cancel n 128)
+returns c = by-256 (c.args.c * c.args.a + c.args.s * (255 - c.args.a)) (omega (arith, low (goal.at.returns c).Start, high (goal.at.returns c).Start))

@@ -2,8 +2,7 @@
 use Rattle.std.proofs.Common.{◌≡◌, ℕ, T, sym, refl, ap, ◌∙◌, subst, arith}
 use lib.Ieee.{Float, binary32, mul, div, of_bits, of_int}
 use Rattle.colour.specs.Channel.{float, product, in_byte, round_away, multiply_byte}
-use Rattle.colour.proofs.Accurate.{product-in-byte}
-use Rattle.colour.proofs.Laws.{multiplied-channel}
+use Rattle.colour.proofs.Accurate.{product-in-byte, multiplied}
 use Rattle.colour.proofs.channel.multiply_channel.Goals as goal
 
 -- 255.0 is the byte 255 as a float
@@ -26,4 +25,4 @@ pub returns : goal.returns
 unfolding multiply_byte
 returns c =
     let p = c.args in
-    multiplied-channel p.s p.c p.a (omega arith) (omega arith) (omega arith) (c.round_to_byte.ensures ∙ ap round_away (sym (as_written p.s p.c p.a)))
+    multiplied p.s p.c p.a c.round_to_byte.result (omega arith) (omega arith) (omega arith) (c.round_to_byte.ensures ∙ ap round_away (sym (as_written p.s p.c p.a)))

@@ -1,11 +1,11 @@
 -- `dots::draw::covers` meets its contract. Assumes nothing.
-use Rattle.dots.specs.Tables.{opaque_blend}
+use Rattle.dots.specs.Tables.{covers}
 use Rattle.dots.proofs.draw.covers.Goals as goal
 
 pub returns-then-multiply : goal.returns-then-multiply
-unfolding opaque_blend
+unfolding covers
 returns-then-multiply c = rw c.if-multiply.true
 
 pub returns : goal.returns
-unfolding opaque_blend
+unfolding covers
 returns c = rw c.if-multiply.false

@@ -1,10 +1,9 @@
 -- `dots::mix::mix_byte` meets its contract. Assumes nothing.
 use native.Mathlib.Omega.{arith}
 use native.Mathlib.Nat.{mul-le-mul_right}
-use Prim.Native.Nat.{◌*◌, ◌≤◌, ◌+◌}
-use Rattle.dots.proofs.mix.mix_byte.Goals.{Start}
-use Rattle.colour.proofs.Laws.{by-256}
+use Prim.Native.Nat.{◌*◌, ◌≤◌}
 use Rattle.dots.proofs.mix.mix_byte.Goals as goal
+use Rattle.dots.proofs.mix.mix_byte.Goals.{Start}
 
 low : (c : Start) → c.args.s * c.args.m ≤ 255 * c.args.m
 low c = mul-le-mul_right c.args.m (omega arith)
@@ -20,6 +19,3 @@ overflow_add-result c = omega (arith, low (goal.at.overflow_add-result c).Start)
 
 pub overflow_cast-result : goal.overflow_cast-result
 overflow_cast-result c = omega (arith, low (goal.at.overflow_cast-result c).Start)
-
-pub returns : goal.returns
-returns c = by-256 (c.args.s * c.args.m + c.args.k) (omega (arith, low (goal.at.returns c).Start))

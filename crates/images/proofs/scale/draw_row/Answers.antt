@@ -1,21 +1,19 @@
 -- `images::scale::draw_row` meets its contract. Assumes nothing.
 use mathlib.Core.Path.{◌≡◌, sym, ◌∙◌}
-use mathlib.Core.Bool.{true, false}
+use mathlib.Core.Bool.{true}
 use native.Mathlib.Omega.{arith}
-use Rattle.images.specs.Steps.{repeated, is_bits}
+use Rattle.images.specs.Steps.{repeated}
 use Rattle.images.specs.declared.formats.Format.TheVariants.{Bits}
-use Rattle.images.proofs.Scaling.{repeat-is-row, bits-in-data, bits-shown, bits-is-row, is-bits}
-use Rattle.images.proofs.scale.draw_row.Goals.{Then-is_bits, Then-repeats, Else-is_bits}
+use Rattle.images.proofs.Sides.{sides}
+use Rattle.images.proofs.Scaling.{repeat-is-row, bits-in-data, bits-shown, bits-is-row}
 use Rattle.images.proofs.scale.draw_row.Goals as goal
+use Rattle.images.proofs.scale.draw_row.Goals.{Then-is_bits, Then-repeats}
 
 again : (c : Then-repeats) → repeated c.args.j c.args.source.fy c.args.blend ≡ true
 again c = sym c.repeats.ensures ∙ c.if-repeats.true
 
 of-bits : (c : Then-is_bits) → c.args.source.format ≡ Bits
-of-bits c = is-bits c.args.source.format (sym c.is_bits.ensures ∙ c.if-is_bits.true)
-
-of_other : (c : Else-is_bits) → is_bits c.args.source.format ≡ false
-of_other c = sym c.is_bits.ensures ∙ c.if-is_bits.false
+of-bits c = c.is_bits.ensures c.if-is_bits.true
 
 pub repeats-requires : goal.repeats-requires
 repeats-requires c = c.requires.sound.fy
@@ -34,6 +32,9 @@ pub returns-then-repeats : goal.returns-then-repeats
 returns-then-repeats c =
     repeat-is-row _ _ _ _ _ _ c.requires.above (again (goal.at.returns-then-repeats c).Then-repeats) c.move_run.ensures
 
+pub row_bytes-requires : goal.row_bytes-requires
+row_bytes-requires c = (sides c.args.source c.requires.sound).0
+
 pub overflow_mul-from : goal.overflow_mul-from
 overflow_mul-from c =
     omega (arith, bits-in-data c.args.source c.requires.sound c.requires.j_bound.0 (of-bits (goal.at.overflow_mul-from c).Then-is_bits) c.row_bytes.ensures)
@@ -43,13 +44,4 @@ unpack_row-requires c =
     (c.requires.j_bound.1, c.requires.sound.fx, c.requires.sound.wide, bits-shown c.args.source c.requires.sound c.requires.j_bound.0 (of-bits (goal.at.unpack_row-requires c).Then-is_bits) c.row_bytes.ensures)
 
 pub returns-then-is_bits : goal.returns-then-is_bits
-returns-then-is_bits c =
-    bits-is-row c.args.source _ _ _ _ _ (of-bits (goal.at.returns-then-is_bits c).Then-is_bits) c.row_bytes.ensures c.unpack_row.ensures
-
-pub plain_pixels-requires : goal.plain_pixels-requires
-plain_pixels-requires c =
-    record { sound = (c.requires.sound, of_other (goal.at.plain_pixels-requires c).Else-is_bits, c.if-source-eq1.true); j_bound = c.requires.j_bound }
-
-pub scale_pixels-requires : goal.scale_pixels-requires
-scale_pixels-requires c =
-    record { sound = (c.requires.sound, of_other (goal.at.scale_pixels-requires c).Else-is_bits); j_bound = c.requires.j_bound }
+returns-then-is_bits c = bits-is-row c.args.source _ _ _ _ _ (of-bits (goal.at.returns-then-is_bits c).Then-is_bits) c.row_bytes.ensures c.unpack_row.ensures

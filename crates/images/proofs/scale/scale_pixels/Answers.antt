@@ -7,7 +7,7 @@ loop-x-init c = across-start _ _ _ _ _ _
 
 pub alpha_at-alpha-requires : goal.alpha_at-alpha-requires
 alpha_at-alpha-requires c =
-    source-dot c.args.source c.requires.sound.0 c.requires.j_bound.0 c.loop-x-test.true c.requires.sound.1
+    source-dot c.args.source c.requires.sound c.requires.j_bound.0 c.loop-x-test.true
 
 pub land_run-requires : goal.land_run-requires
 land_run-requires c =

@@ -6,4 +6,4 @@ use Rattle.job.proofs.dropping.flip_reason.Goals as goal
 pub returns : goal.returns
 unfolding flip_reason
 returns c =
-    c.first_of.ensures ∙ rw (c.empty_refusal.ensures, c.first_of-place.ensures, c.across_refusal.ensures, c.tall_refusal.ensures, c.reached.ensures)
+    c.first.ensures ∙ rw (c.empty_refusal.ensures, c.first-place.ensures, c.across_refusal.ensures, c.tall_refusal.ensures, c.reached.ensures)

@@ -6,4 +6,4 @@ use Rattle.job.proofs.dropping.put_reason.Goals as goal
 pub returns : goal.returns
 unfolding put_reason
 returns c =
-    c.first_of.ensures ∙ rw (c.side_refusal.ensures, c.first_of-place.ensures, c.off_refusal.ensures, c.tall_refusal.ensures, c.reached.ensures)
+    c.first.ensures ∙ rw (c.side_refusal.ensures, c.first-place.ensures, c.off_refusal.ensures, c.tall_refusal.ensures, c.reached.ensures)

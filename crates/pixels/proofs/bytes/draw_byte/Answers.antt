@@ -12,7 +12,7 @@ mix_byte-requires c = omega arith
 
 pub returns-then-full : goal.returns-then-full
 returns-then-full c =
-    byte_full c.args.s c.args.c c.args.a c.if-multiply.true
+    byte_full c.args.s c.args.c c.args.a (omega arith) (omega arith) c.if-multiply.true
     (⊎_elim (λ e. absurd (true≢false (sym c.if-full.true ∙ e))) (λ e. e) c.requires) c.mix_byte.ensures
 
 pub overflow_mul-c : goal.overflow_mul-c

@@ -27,9 +27,15 @@ loop-i-smaller c = omega arith
 pub loop-i-preserved : goal.loop-i-preserved
 loop-i-preserved c = (
   omega arith,
-  spread-next _ _ _ _ (omega arith) c.loop-i.invariant.1 c.load_dot-p.ensures c.inks_of.ensures c.store_dot.ensures,
-  spread-next _ _ _ _ (omega arith) c.loop-i.invariant.2 c.load_dot-p.ensures c.alphas_of.ensures c.store_dot-in-loop-i.ensures,
+  spread-next _ _ _ _ (omega arith) c.loop-i.invariant.1 c.load_dot-p.ensures c.inks.ensures c.store_dot.ensures,
+  spread-next _ _ _ _ (omega arith) c.loop-i.invariant.2 c.load_dot-p.ensures c.alphas.ensures c.store_dot-in-loop-i.ensures,
 )
+
+pub shape_of-ink : goal.shape_of-ink
+shape_of-ink c = omega arith
+
+pub shape_of-alpha : goal.shape_of-alpha
+shape_of-alpha c = omega arith
 
 pub returns : goal.returns
 returns c =

@@ -6,4 +6,4 @@ use Rattle.places.proofs.rules.border_refusal.Goals as goal
 pub returns : goal.returns
 unfolding border_refusal
 returns c =
-    c.first_of.ensures ∙ rw (c.side_refusal.ensures, c.first_of-empty.ensures, c.empty_refusal.ensures, c.room_refusal-room.ensures)
+    c.first-2.ensures ∙ rw (c.side_refusal.ensures, c.first.ensures, c.empty_refusal.ensures, c.room_refusal.ensures)

@@ -6,4 +6,5 @@ use Rattle.places.proofs.rules.flip_refusal.Goals as goal
 pub returns : goal.returns
 unfolding flip_refusal
 returns c =
-    c.first_of.ensures ∙ rw (c.canvas_refusal.ensures, c.first_of-empty.ensures, c.empty_refusal.ensures, c.first_of-across.ensures, c.across_refusal.ensures, c.result_refusal-result.ensures, c.flip_tall.ensures)
+    c.first-2.ensures
+    ∙ rw (c.canvas_refusal.ensures, c.first.ensures, c.empty_refusal.ensures, c.first-place.ensures, c.across_refusal.ensures, c.result_refusal.ensures, c.flip_tall.ensures)

@@ -6,6 +6,6 @@ use Rattle.places.proofs.rules.place_refusal.Goals as goal
 pub returns : goal.returns
 unfolding place_refusal
 returns c =
-    c.first_of.ensures
-    ∙ rw (c.canvas_refusal.ensures, c.first_of-length.ensures, c.length_refusal.ensures, c.first_of-side.ensures, c.side_refusal.ensures, c.first_of-many.ensures)
-    (rw (c.many_refusal.ensures, c.first_of-off.ensures, c.off_refusal.ensures, c.first_of-short.ensures, c.short_refusal.ensures, c.result_refusal-result.ensures))
+    c.first-2.ensures
+    ∙ rw (c.canvas_refusal.ensures, c.first-pixels.ensures, c.length_refusal.ensures, c.first.ensures, c.side_refusal.ensures, c.first-many.ensures)
+    (rw (c.many_refusal.ensures, c.first-place.ensures, c.off_refusal.ensures, c.first-end.ensures, c.short_refusal.ensures, c.result_refusal.ensures))

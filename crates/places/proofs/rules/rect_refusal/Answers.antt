@@ -5,4 +5,5 @@ use Rattle.places.proofs.rules.rect_refusal.Goals as goal
 
 pub returns : goal.returns
 returns c =
-    rw (equal-refusal _ _ _ _ _ _ _) (c.first_of.ensures ∙ rw (c.canvas_refusal.ensures, c.first_of-side.ensures, c.side_refusal.ensures, c.first_of-off.ensures, c.off_refusal.ensures, c.result_refusal-result.ensures))
+    rw (equal-refusal _ _ _ _ _ _ _) (c.first-2.ensures
+    ∙ rw (c.canvas_refusal.ensures, c.first.ensures, c.side_refusal.ensures, c.first-place.ensures, c.off_refusal.ensures, c.result_refusal.ensures))

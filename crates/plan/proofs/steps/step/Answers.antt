@@ -6,27 +6,27 @@ use Rattle.plan.proofs.Answers.{rectangle-planned, rectangle-end, image-planned,
 use Rattle.plan.proofs.steps.step.Goals as goal
 
 pub returns-then-why-ne-DONE : goal.returns-then-why-ne-DONE
-returns-then-why-ne-DONE c = step-out _ _ _ c.command_reason-why.ensures c.if-why-ne-DONE.true c.push-p.ensures
+returns-then-why-ne-DONE c = step-out _ _ _ c.command_reason-why.ensures c.if-why-ne-DONE.true c.leave_out.ensures
 
 pub rectangle-e-requires : goal.rectangle-e-requires
 rectangle-e-requires c =
-    let f = rectangle-kept _ _ (kept_of c.args.plan 0 _ c.command_reason-why.ensures c.if-why-ne-DONE.false) c.in-Rectangle.is in omega (arith, f.on)
+    let f = rectangle-kept _ _ (kept_of c.args.p 0 _ c.command_reason-why.ensures c.if-why-ne-DONE.false) c.in-Rectangle.is in omega (arith, f.on)
 
 pub push-requires : goal.push-requires
 push-requires c =
-    let f = rectangle-kept _ _ (kept_of c.args.plan 0 _ c.command_reason-why.ensures c.if-why-ne-DONE.false) c.in-Rectangle.is in (c.requires.entry, rectangle-end _ _ _ _ _ _ _ c.rectangle-e.ensures (omega (arith, f.fits)))
+    let f = rectangle-kept _ _ (kept_of c.args.p 0 _ c.command_reason-why.ensures c.if-why-ne-DONE.false) c.in-Rectangle.is in (c.requires.entry, rectangle-end _ _ _ _ _ _ _ c.rectangle-e.ensures (omega (arith, f.fits)))
 
 pub image-e-requires : goal.image-e-requires
 image-e-requires c =
-    let f = (stretched-kept _ _ (kept_of c.args.plan 0 _ c.command_reason-why.ensures c.if-why-ne-DONE.false) c.in-Image.is).put in omega (arith, f.on, f.wide, f.fits)
+    let f = (stretched-kept _ _ (kept_of c.args.p 0 _ c.command_reason-why.ensures c.if-why-ne-DONE.false) c.in-Image.is).put in omega (arith, f.on, f.wide, f.fits)
 
 pub push-requires-in-Image : goal.push-requires-in-Image
 push-requires-in-Image c =
-    let f = (stretched-kept _ _ (kept_of c.args.plan 0 _ c.command_reason-why.ensures c.if-why-ne-DONE.false) c.in-Image.is).put in (c.requires.entry, image-end _ _ _ _ _ _ _ _ _ _ c.image-e.ensures (omega (arith, f.fits)))
+    let f = (stretched-kept _ _ (kept_of c.args.p 0 _ c.command_reason-why.ensures c.if-why-ne-DONE.false) c.in-Image.is).put in (c.requires.entry, image-end _ _ _ _ _ _ _ _ _ _ c.image-e.ensures (omega (arith, f.fits)))
 
 pub shift-requires : goal.shift-requires
 shift-requires c =
-    record { few = omega arith; tall = margin-kept _ _ (kept_of c.args.plan 0 _ c.command_reason-why.ensures c.if-why-ne-DONE.false) c.in-Margin.is; low = c.requires.low }
+    record { few = omega arith; tall = margin-kept _ _ (kept_of c.args.p 0 _ c.command_reason-why.ensures c.if-why-ne-DONE.false) c.in-Margin.is; low = c.requires.low }
 
 pub returns-in-Rectangle : goal.returns-in-Rectangle
 returns-in-Rectangle c =

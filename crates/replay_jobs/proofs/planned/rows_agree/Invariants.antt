@@ -5,7 +5,7 @@ use lib.ListN.{length}
 use Rattle.replay_jobs.proofs.planned.rows_agree.Given as goal
 
 abbrev pub invariant-loop-row : goal.invariant-loop-row
-invariant-loop-row l = (l.row ≤ l.plan.height) × (l.from ≤ length l.canvas) × (length l.space ≡ length l.initial.space) × (length l.other ≡ length l.initial.other)
+invariant-loop-row l = (l.row ≤ l.plan.height) × (l.from ≤ length l.canvas) × (length l.space ≡ length l.initial.space)
 
 abbrev pub decreases-loop-row : goal.decreases-loop-row
 decreases-loop-row l = l.plan.height - l.row

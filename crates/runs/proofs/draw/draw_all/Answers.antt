@@ -1,8 +1,8 @@
 use mathlib.Core.Path.{sym, ◌∙◌}
 use native.Mathlib.Omega.{arith}
 use Rattle.job.proofs.Found.{found}
-use Rattle.job.proofs.Walk.{good, walk-bad, walk-sound}
-use Rattle.runs.proofs.Going.{drawing-start, drawing-end, drawing-room, drawing-next}
+use Rattle.job.proofs.Walk.{good}
+use Rattle.runs.proofs.Going.{drawing-start, drawing-bad, drawing-end, drawing-sound, drawing-room, drawing-next}
 use Rattle.runs.proofs.draw.draw_all.Goals as goal
 
 pub paper_width-width-requires : goal.paper_width-width-requires
@@ -16,7 +16,7 @@ loop-kind-init c = drawing-start _ _ (good _ c.requires.0)
 
 pub command_at-c-requires : goal.command_at-c-requires
 command_at-c-requires c =
-    let l = c.loop-kind in let e = (sym c.in-Record.is ∙ c.next_record.ensures) in (omega (arith, found _ _ e), walk-sound _ l.at l.invariant e)
+    let l = c.loop-kind in let e = (sym c.in-Record.is ∙ c.next_record.ensures) in (omega (arith, found _ _ e), drawing-sound _ _ _ l.height l.at c.requires.1 (good _ c.requires.0) l.invariant e)
 
 pub obey-height-requires : goal.obey-height-requires
 obey-height-requires c =
@@ -29,9 +29,15 @@ pub loop-kind-preserved : goal.loop-kind-preserved
 loop-kind-preserved c =
     let l = c.loop-kind in drawing-next _ _ _ l.height l.at c.requires.1 (good _ c.requires.0) l.invariant (sym c.in-Record.is ∙ c.next_record.ensures) c.command_at-c.ensures c.paper_width-width.ensures c.paper_color-paper.ensures c.obey-height.ensures.value c.obey-height.ensures.buf_after
 
+pub shape_of-buf-in-Bad : goal.shape_of-buf-in-Bad
+shape_of-buf-in-Bad c = omega arith
+
 pub returns-in-Bad : goal.returns-in-Bad
 returns-in-Bad c =
-    let l = c.loop-kind in absurd (walk-bad _ l.at l.invariant (sym c.in-Bad.is ∙ c.next_record.ensures))
+    let l = c.loop-kind in absurd (drawing-bad _ _ _ l.height l.at c.requires.1 (good _ c.requires.0) l.invariant (sym c.in-Bad.is ∙ c.next_record.ensures))
+
+pub shape_of-buf-in-End : goal.shape_of-buf-in-End
+shape_of-buf-in-End c = omega arith
 
 pub returns-in-End : goal.returns-in-End
 returns-in-End c =

@@ -15,16 +15,16 @@ pub rectangle-e-requires : goal.rectangle-e-requires
 rectangle-e-requires c =
     let k = rectangle-kept _ _ (kept_of [] _ c.args.paper _ [] c.args.c c.command_reason.ensures c.if-command_reason-ne-DONE.false) c.in-Rectangle.is in omega (arith, k.on)
 
-pub place_entry-requires : goal.place_entry-requires
-place_entry-requires c =
+pub place-requires : goal.place-requires
+place-requires c =
     rectangle-asks _ _ c.args.paper _ [] c.args.c c.command_reason.ensures c.if-command_reason-ne-DONE.false c.requires.0 c.in-Rectangle.is c.requires.2 c.rectangle-e.ensures
 
 pub image-e-requires : goal.image-e-requires
 image-e-requires c =
     let k = (stretched-kept _ _ (kept_of [] _ c.args.paper _ [] c.args.c c.command_reason.ensures c.if-command_reason-ne-DONE.false) c.in-Image.is).put in omega (arith, k.on, k.wide, k.high)
 
-pub place_entry-requires-in-Image : goal.place_entry-requires-in-Image
-place_entry-requires-in-Image c =
+pub place-requires-in-Image : goal.place-requires-in-Image
+place-requires-in-Image c =
     image-asks _ _ c.args.paper _ [] c.args.c c.command_reason.ensures c.if-command_reason-ne-DONE.false c.requires.0 c.in-Image.is c.requires.2 (omega arith) (omega arith) c.image-e.ensures
 
 pub overflow_mul-wide : goal.overflow_mul-wide
@@ -56,11 +56,11 @@ flip_area-requires c =
 
 pub returns-in-Rectangle : goal.returns-in-Rectangle
 returns-in-Rectangle c =
-    let r = step_in _ _ _ _ _ _ c.command_reason.ensures c.if-command_reason-ne-DONE.false c.in-Rectangle.is (rectangle-obeyed _ _ _ _ _ c.place_entry.ensures.value c.place_entry.ensures.buf_after _ _ _ _ _ _ c.rectangle-e.ensures) in record { value = r.0; buf_after = r.1 }
+    let r = step_in _ _ _ _ _ _ c.command_reason.ensures c.if-command_reason-ne-DONE.false c.in-Rectangle.is (rectangle-obeyed _ _ _ _ _ c.place.ensures.value c.place.ensures.buf_after _ _ _ _ _ _ c.rectangle-e.ensures) in record { value = r.0; buf_after = r.1 }
 
 pub returns-in-Image : goal.returns-in-Image
 returns-in-Image c =
-    let r = step_in _ _ _ _ _ _ c.command_reason.ensures c.if-command_reason-ne-DONE.false c.in-Image.is (image-obeyed _ _ _ _ _ c.place_entry-in-Image.ensures.value c.place_entry-in-Image.ensures.buf_after _ _ _ _ _ _ _ _ _ _ c.image-e.ensures) in record { value = r.0; buf_after = r.1 }
+    let r = step_in _ _ _ _ _ _ c.command_reason.ensures c.if-command_reason-ne-DONE.false c.in-Image.is (image-obeyed _ _ _ _ _ c.place-in-Image.ensures.value c.place-in-Image.ensures.buf_after _ _ _ _ _ _ _ _ _ _ c.image-e.ensures) in record { value = r.0; buf_after = r.1 }
 
 pub returns-in-Margin : goal.returns-in-Margin
 returns-in-Margin c =

@@ -1,19 +1,19 @@
-use mathlib.Core.Path.{sym, ◌∙◌, refl}
+use mathlib.Core.Path.{sym, ◌∙◌}
 use native.Mathlib.Omega.{arith}
 use Rattle.job.proofs.Found.{found}
-use Rattle.job.proofs.Walk.{good, walk_start, walk-bad, walk_end, walk-sound}
-use Rattle.runs.proofs.Going.{surveyed-few, surveyed-room, surveyed-next}
+use Rattle.job.proofs.Walk.{good}
+use Rattle.runs.proofs.Going.{surveyed-start, surveyed-bad, surveyed-end, surveyed-sound, surveyed-few, surveyed-room, surveyed-next}
 use Rattle.runs.proofs.survey.look_over.Goals as goal
 
 pub paper_width-width-requires : goal.paper_width-width-requires
 paper_width-width-requires c = (good _ c.requires).long
 
 pub loop-kind-init : goal.loop-kind-init
-loop-kind-init c = walk_start _ (good _ c.requires) (refl, c.nothing-v.ensures)
+loop-kind-init c = surveyed-start _ (good _ c.requires) c.nothing-v.ensures
 
 pub command_at-c-requires : goal.command_at-c-requires
 command_at-c-requires c =
-    let l = c.loop-kind in let e = (sym c.in-Record.is ∙ c.next_record.ensures) in (omega (arith, found _ _ e), walk-sound _ l.at l.invariant e)
+    let l = c.loop-kind in let e = (sym c.in-Record.is ∙ c.next_record.ensures) in (omega (arith, found _ _ e), surveyed-sound _ l.v l.k l.at l.invariant e)
 
 pub look_at-v-requires : goal.look_at-v-requires
 look_at-v-requires c =
@@ -32,7 +32,8 @@ loop-kind-preserved c =
 
 pub returns-in-Bad : goal.returns-in-Bad
 returns-in-Bad c =
-    let l = c.loop-kind in absurd (walk-bad _ l.at l.invariant (sym c.in-Bad.is ∙ c.next_record.ensures))
+    let l = c.loop-kind in absurd (surveyed-bad _ l.v l.k l.at l.invariant (sym c.in-Bad.is ∙ c.next_record.ensures))
 
 pub returns-in-End : goal.returns-in-End
-returns-in-End c = let l = c.loop-kind in (walk_end _ l.at l.invariant (sym c.in-End.is ∙ c.next_record.ensures)).1
+returns-in-End c =
+    let l = c.loop-kind in surveyed-end _ l.v l.k l.at l.invariant (sym c.in-End.is ∙ c.next_record.ensures)

@@ -1,5 +1,0 @@
-//! The version of the boundary.
-
-unsafe extern "C" {
-    pub fn thermal_version() -> u32;
-}

@@ -1,8 +1,0 @@
--- `job::dropping::DroppedList::none` meets its contract. Assumes nothing.
-use mathlib.Core.Path.{refl}
-use Rattle.job.specs.Dropping.{filled_up}
-use Rattle.job.proofs.dropping.DroppedList.none.Goals as goal
-
-pub returns : goal.returns
-unfolding filled_up
-returns c = refl
