@@ -11,7 +11,7 @@ use channel::{blend_channel, multiply_channel};
 
 // A pixel: red, green, blue, and how opaque it is.
 #[repr(C)]
-#[derive(Clone, Copy)]
+#[derive(Clone, Copy, Debug, PartialEq, Eq)]
 pub struct RGBA {
     pub r: u8,
     pub g: u8,
@@ -116,7 +116,7 @@ impl RGBA {
 
 // The colours that an image's layers name by number.
 #[repr(C)]
-#[derive(Clone, Copy)]
+#[derive(Clone, Copy, Debug, PartialEq, Eq)]
 pub struct RenderColors {
     pub paper_color: RGBA,
     pub color_1: RGBA,

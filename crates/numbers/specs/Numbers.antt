@@ -1,5 +1,7 @@
 -- The numbers that an entry can give, and the largest side.
-use Rattle.std.specs.Prelude.{ℕ}
+use Rattle.std.specs.Prelude.{ℕ, Result, Ok, Err}
+use Rattle.numbers.specs.declared.refusal.Refusal.{Refusal}
+use Rattle.numbers.specs.declared.refusal.Refusal.TheVariants.{NoRoom, TooLarge, WrongLength, NoLayers, OffPaper, TooMany, Short, TooTall, BadCanvas, EmptyArea, BadJob, TooLong, NotTranslated, BadPlan, NoRow, LayerSize}
 
 -- the largest width and height
 abbrev pub limit : ℕ
@@ -71,3 +73,27 @@ no_row = 15
 -- in merging, a later layer is wider or taller
 abbrev pub layer_size : ℕ
 layer_size = 16
+
+-- the number of a refusal
+abbrev pub number_of : Refusal → ℕ
+number_of NoRoom = no_room
+number_of TooLarge = too_large
+number_of WrongLength = wrong_length
+number_of NoLayers = no_layers
+number_of OffPaper = off_paper
+number_of TooMany = too_many
+number_of Short = short
+number_of TooTall = too_tall
+number_of BadCanvas = bad_canvas
+number_of EmptyArea = empty_area
+number_of BadJob = bad_job
+number_of TooLong = too_long
+number_of NotTranslated = not_translated
+number_of BadPlan = bad_plan
+number_of NoRow = no_row
+number_of LayerSize = layer_size
+
+-- the number of an answer: 0 where it is done
+abbrev pub number : {A : Type 0} → Result A Refusal → ℕ
+number (Ok a) = done
+number (Err why) = number_of why

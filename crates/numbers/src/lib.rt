@@ -3,8 +3,10 @@
 #![tactic(auto)]
 
 mod order;
+mod refusal;
 
 pub use order::{larger, larger_side, smaller, smaller_side};
+pub use refusal::Refusal;
 
 pub const DONE: u8 = 0;
 
