@@ -1,3 +1,4 @@
 pub mod Sides
 pub mod OneAnswer
+pub mod Refusals
 mod Unique

@@ -1,11 +1,15 @@
 -- From tests to a refusal's number, and from number 0 to what was tested. Assumes nothing.
-use mathlib.Core.Path.{◌≡◌, refl, sym}
+use mathlib.Core.Path.{◌≡◌, refl, sym, ◌∙◌}
+use Rattle.std.proofs.Common.{Result}
+use Rattle.std.specs.Result.{IsErrAnd}
 use mathlib.Core.Bool.{Bool, true, false, not, ◌&&◌, ◌||◌}
-use Prim.Native.Nat.{ℕ, ◌+◌, ◌*◌, ◌/◌, ◌≤◌, ◌<◌, max}
+use Prim.Native.Nat.{ℕ, ◌+◌, ◌*◌, ◌≤◌, ◌<◌, max}
 use native.Mathlib.Omega.{arith}
 use lib.Dec.{ltb, leb, eqb}
-use borrow.Author.Tests.{ltb-false, leb-false, eqb-true, eqb-false, lt-ltb, le-ltb, lt-leb, eq-eqb, ne_eqb}
-use Rattle.numbers.specs.Numbers.{limit, done, bad_canvas}
+use borrow.Author.Tests.{ltb-false, leb-false, eqb-true, eqb-false, le-ltb, lt-leb, eq-eqb, ne_eqb}
+use Rattle.numbers.specs.declared.refusal.Refusal.{Refusal}
+use Rattle.numbers.specs.Numbers.{limit, done, number_of, number}
+use Rattle.numbers.proofs.Refusals.{refused, handed}
 use Rattle.std.specs.Prelude.{if◌then◌else◌}
 use Rattle.colour.proofs.Tests.{neither}
 use Rattle.refusals.specs.Refusals.{first, canvas_refusal, tall_refusal, wide_refusal, room_refusal, rgb_room_refusal, side_refusal, off_refusal, across_refusal, empty_refusal, rows_of, grow_refusal, margin_refusal, width_refusal, widen_refusal, out_refusal, rgb_refusal}
@@ -19,14 +23,6 @@ first_some a b e = rw (ne_eqb a done e)
 pub first-none : (a b : ℕ) → a ≡ done → b ≡ first a b
 unfolding first
 first-none a b e = rw (eq-eqb a done e)
-
-pub first-last : (a : ℕ) → a ≡ first a done
-unfolding first
-first-last a = go (eqb a done) refl
-  where
-    go : (t : Bool) → eqb a done ≡ t → a ≡ (if t then done else a)
-    go true e = eqb-true a done e
-    go false e = refl
 
 pub first_done : (a b : ℕ) → first a b ≡ done → (a ≡ done) × (b ≡ done)
 unfolding first
@@ -44,6 +40,14 @@ first_then a b c = go (eqb a done) refl
     go : (t : Bool) → eqb a done ≡ t → first (if t then b else a) c ≡ (if t then first b c else a)
     go true e = refl
     go false e = sym (first_some a c (eqb-false a done e))
+
+-- what comes first, and passes
+pub passing : {a b n : ℕ} → done ≡ a → n ≡ b → n ≡ first a b
+passing e h = h ∙ first-none _ _ (sym e)
+
+-- what comes first, refuses and is handed on by a `?`
+pub stopping : {A : Type 0} (r : Result A Refusal) (why : Refusal) {a : ℕ} (b : ℕ) → IsErrAnd r (λ y. y ≡ why) → number_of why ≡ a → number r ≡ first a b
+stopping r why b h e = handed r why h ∙ (e ∙ first_some _ b (λ z. omega (arith, refused why, e, z)))
 
 -- a test that gave 0 failed, and what comes after it gave 0
 pub passed_on : (t : Bool) {k r : ℕ} → 0 < k → (if t then k else r) ≡ done → (t ≡ false) × (r ≡ done)
@@ -108,22 +112,6 @@ flat-test w h = go (eqb w 0)
     go : (t : Bool) → ltb (if t then 0 else h) h ≡ (t && ltb 0 h)
     go true = refl
     go false = le-ltb h h (omega arith)
-
--- the last tests, by the rows that the code works out
-module _ (w h n : ℕ) (a : w ≤ limit) (b : h ≤ limit) {r : ℕ} (e : r ≡ rows_of w h) where
-  pub canvas-refusal-flat : r < h → bad_canvas ≡ canvas_refusal w h n
-  unfolding canvas_refusal
-  canvas-refusal-flat l = rw (le-ltb _ _ a, le-ltb _ _ b, ← flat-test w h, ← e, lt-ltb _ _ l)
-
-  pub canvas-refusal-short : h ≤ r → n / 4 < w * h → bad_canvas ≡ canvas_refusal w h n
-  unfolding canvas_refusal
-  canvas-refusal-short l s =
-      rw (le-ltb _ _ a, le-ltb _ _ b, ← flat-test w h, ← e, le-ltb _ _ l, lt-ltb n (4 * (w * h)) (omega arith))
-
-  pub canvas-refusal-none : h ≤ r → w * h ≤ n / 4 → done ≡ canvas_refusal w h n
-  unfolding canvas_refusal
-  canvas-refusal-none l s =
-      rw (le-ltb _ _ a, le-ltb _ _ b, ← flat-test w h, ← e, le-ltb _ _ l, le-ltb n (4 * (w * h)) (omega arith))
 
 pub record Sound (W H n : ℕ) : Type 0 where
   pub width : W ≤ limit

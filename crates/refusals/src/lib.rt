@@ -1,24 +1,16 @@
 // What the canvas's own operations are refused for, from sizes and lengths alone: of a canvas w by h
 // whose buffer has n bytes. A job's commands are dropped for the same height, and its run is refused
 // for the same room. Inner steps, which take any numbers.
-#![tactic(auto)]
+#![tactic(auto, using(std::proofs::lemmas::Bool::Decides::nat_tests), unfolding(crate::specs::Refusals::rows_of, crate::specs::Refusals::canvas_refusal, crate::specs::Refusals::tall_refusal, crate::specs::Refusals::wide_refusal, crate::specs::Refusals::room_refusal, crate::specs::Refusals::rgb_room_refusal, crate::specs::Refusals::side_refusal, crate::specs::Refusals::off_refusal, crate::specs::Refusals::across_refusal, crate::specs::Refusals::empty_refusal))]
 
 mod drawn;
 
-ghost use Rattle.std.specs.Prelude.{◌≡◌};
-ghost use Rattle.refusals.specs.Refusals.{first, rows_of, canvas_refusal, tall_refusal, wide_refusal, room_refusal, rgb_room_refusal, grow_refusal, margin_refusal, widen_refusal, width_refusal, out_refusal, rgb_refusal};
+ghost use Rattle.std.specs.Prelude.{◌≡◌, ◌*◌, ◌<◌, ltb};
+ghost use Rattle.numbers.specs.Numbers.{number};
+ghost use Rattle.refusals.specs.Refusals.{rows_of, canvas_refusal, tall_refusal, wide_refusal, room_refusal, rgb_room_refusal, grow_refusal, margin_refusal, widen_refusal, width_refusal, out_refusal, rgb_refusal};
 
 pub use drawn::{across_refusal, empty_refusal, off_refusal, side_refusal};
-use numbers::{BAD_CANVAS, DONE, LIMIT, NO_ROOM, TOO_LARGE, TOO_TALL, larger_side};
-
-pub fn first(number: u8, next: u8) -> u8
-    ensures { result ≡ first number next }
-{
-    if number != DONE {
-        return number;
-    }
-    next
-}
+use numbers::{LIMIT, Refusal};
 
 pub fn rows_of(w: u32, h: u32) -> u32
     ensures { result ≡ rows_of w h }
@@ -29,106 +21,104 @@ pub fn rows_of(w: u32, h: u32) -> u32
     h
 }
 
-pub fn tall_refusal(h: usize) -> u8
-    ensures { result ≡ tall_refusal h }
+// Whether n bytes are too few for w by h dots of `BYTES` each. A product of two u32 fits a usize, and
+// some times it may not: so the length is divided.
+fn lacks_room<const BYTES: usize>(w: u32, h: u32, n: usize) -> bool
+    requires { 0 < BYTES }
+    ensures { result ≡ ltb n (BYTES * (w * h)) }
+{
+    n / BYTES < w as usize * h as usize
+}
+
+pub fn tall_refusal(h: usize) -> Result<(), Refusal>
+    ensures { number result ≡ tall_refusal h }
 {
     if h > LIMIT as usize {
-        return TOO_TALL;
+        return Err(Refusal::TooTall);
     }
-    DONE
+    Ok(())
 }
 
-pub fn wide_refusal(w: u32) -> u8
-    ensures { result ≡ wide_refusal w }
+pub fn wide_refusal(w: u32) -> Result<(), Refusal>
+    ensures { number result ≡ wide_refusal w }
 {
     if w > LIMIT {
-        return TOO_LARGE;
+        return Err(Refusal::TooLarge);
     }
-    DONE
+    Ok(())
 }
 
-// A product of two u32 fits a usize, and four times it may not: so the length is divided.
-pub fn room_refusal(w: u32, h: u32, n: usize) -> u8
-    ensures { result ≡ room_refusal w h n }
+pub fn room_refusal(w: u32, h: u32, n: usize) -> Result<(), Refusal>
+    ensures { number result ≡ room_refusal w h n }
 {
-    if n / 4 < w as usize * h as usize {
-        return NO_ROOM;
+    if lacks_room::<4>(w, h, n) {
+        return Err(Refusal::NoRoom);
     }
-    DONE
+    Ok(())
 }
 
-fn rgb_room_refusal(w: u32, h: u32, n: usize) -> u8
-    ensures { result ≡ rgb_room_refusal w h n }
+fn rgb_room_refusal(w: u32, h: u32, n: usize) -> Result<(), Refusal>
+    ensures { number result ≡ rgb_room_refusal w h n }
 {
-    if n / 3 < w as usize * h as usize {
-        return NO_ROOM;
+    if lacks_room::<3>(w, h, n) {
+        return Err(Refusal::NoRoom);
     }
-    DONE
+    Ok(())
 }
 
-pub fn canvas_refusal(w: u32, h: u32, n: usize) -> u8
-    ensures { result ≡ canvas_refusal w h n }
+pub fn canvas_refusal(w: u32, h: u32, n: usize) -> Result<(), Refusal>
+    ensures { number result ≡ canvas_refusal w h n }
 {
-    if w > LIMIT {
-        return BAD_CANVAS;
+    if w > LIMIT || h > LIMIT || rows_of(w, h) < h || lacks_room::<4>(w, h, n) {
+        return Err(Refusal::BadCanvas);
     }
-    if h > LIMIT {
-        return BAD_CANVAS;
-    }
-    if rows_of(w, h) < h {
-        return BAD_CANVAS;
-    }
-    if w as usize * h as usize > n / 4 {
-        return BAD_CANVAS;
-    }
-    DONE
+    Ok(())
 }
 
-pub fn grow_refusal(w: u32, h: u32, height: u32, n: usize) -> u8
-    ensures { result ≡ grow_refusal w h height n }
+pub fn grow_refusal(w: u32, h: u32, height: u32, n: usize) -> Result<(), Refusal>
+    ensures { number result ≡ grow_refusal w h height n }
 {
-    let number = first(canvas_refusal(w, h, n), tall_refusal(height as usize));
-    first(number, room_refusal(w, larger_side(h, height), n))
+    canvas_refusal(w, h, n)?;
+    tall_refusal(height as usize)?;
+    room_refusal(w, h.max(height), n)
 }
 
 // The sum of two heights fits a u32 once it is within the limit.
-pub fn margin_refusal(w: u32, h: u32, rows: u32, n: usize) -> u8
-    ensures { result ≡ margin_refusal w h rows n }
+pub fn margin_refusal(w: u32, h: u32, rows: u32, n: usize) -> Result<(), Refusal>
+    ensures { number result ≡ margin_refusal w h rows n }
 {
-    let number = first(
-        canvas_refusal(w, h, n),
-        tall_refusal(h as usize + rows as usize),
-    );
-    if number != DONE {
-        return number;
-    }
+    canvas_refusal(w, h, n)?;
+    tall_refusal(h as usize + rows as usize)?;
     room_refusal(w, h + rows, n)
 }
 
-pub fn width_refusal(w: u32, h: u32, width: u32, n: usize) -> u8
-    ensures { result ≡ width_refusal w h width n }
+pub fn width_refusal(w: u32, h: u32, width: u32, n: usize) -> Result<(), Refusal>
+    ensures { number result ≡ width_refusal w h width n }
 {
-    first(canvas_refusal(w, h, n), wide_refusal(width))
+    canvas_refusal(w, h, n)?;
+    wide_refusal(width)
 }
 
-pub fn widen_refusal(w: u32, h: u32, width: u32, n: usize) -> u8
-    ensures { result ≡ widen_refusal w h width n }
+pub fn widen_refusal(w: u32, h: u32, width: u32, n: usize) -> Result<(), Refusal>
+    ensures { number result ≡ widen_refusal w h width n }
 {
-    let number = width_refusal(w, h, width, n);
+    width_refusal(w, h, width, n)?;
     if width <= w {
-        return number;
+        return Ok(());
     }
-    first(number, room_refusal(width, h, n))
+    room_refusal(width, h, n)
 }
 
-pub fn out_refusal(w: u32, h: u32, n: usize, room: usize) -> u8
-    ensures { result ≡ out_refusal w h n room }
+pub fn out_refusal(w: u32, h: u32, n: usize, room: usize) -> Result<(), Refusal>
+    ensures { number result ≡ out_refusal w h n room }
 {
-    first(canvas_refusal(w, h, n), room_refusal(w, h, room))
+    canvas_refusal(w, h, n)?;
+    room_refusal(w, h, room)
 }
 
-pub fn rgb_refusal(w: u32, h: u32, n: usize, room: usize) -> u8
-    ensures { result ≡ rgb_refusal w h n room }
+pub fn rgb_refusal(w: u32, h: u32, n: usize, room: usize) -> Result<(), Refusal>
+    ensures { number result ≡ rgb_refusal w h n room }
 {
-    first(canvas_refusal(w, h, n), rgb_room_refusal(w, h, room))
+    canvas_refusal(w, h, n)?;
+    rgb_room_refusal(w, h, room)
 }
