@@ -1,6 +1,7 @@
 -- The contract of each entry leaves one answer and one content of the buffer that it may write to. Assumes nothing.
 use Rattle.numbers.proofs.OneAnswer.{OneAnswer, OneContent, both}
 use Rattle.thermal_image.proofs.ThermalImage.new.Reads as new
+use Rattle.thermal_image.proofs.ThermalImage.refused.Reads as refused
 use Rattle.thermal_image.proofs.ThermalImage.get_height.Reads as get-height
 use Rattle.thermal_image.proofs.ThermalImage.expand_to_height.Reads as expand-to-height
 use Rattle.thermal_image.proofs.ThermalImage.add_top_margin.Reads as add-top-margin
@@ -16,6 +17,9 @@ use Rattle.thermal_image.proofs.ThermalImage.rotate_270.Reads as rotate-270
 
 new-one : OneAnswer new.Post
 new-one k a x y e f p q = both p q
+
+refused-one : OneAnswer refused.Post
+refused-one k a x y e f p q = both p q
 
 get-height-one : OneAnswer get-height.Post
 get-height-one k a x y e f p q = both p q

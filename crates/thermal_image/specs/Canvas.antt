@@ -25,6 +25,10 @@ sized t W H = canvas W H t.auto_grow t.paper_color
 abbrev pub finished : ThermalImage → Answer
 finished t = record { number = done; image = t }
 
+-- refused, with the canvas t as given
+abbrev pub refused : ℕ → ThermalImage → Answer
+refused number t = record { number = number; image = t }
+
 -- done with a canvas, or refused with the canvas as given
 unfoldable pub answered : ℕ → ThermalImage → ThermalImage → Answer
 answered number t next = record { number = number; image = if eqb number done then next else t }

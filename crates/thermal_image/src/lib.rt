@@ -5,14 +5,15 @@
 mod sizes;
 
 ghost use Rattle.std.specs.Prelude.{◌≡◌, length};
-ghost use Rattle.thermal_image.specs.Canvas.{sized, finished, made_new, grown, grown_on, margined, margined_on, widened, widened_on, set_width, emptied, copied, copied_on, rgb, rgb_on, rotated, rotated_on};
+ghost use Rattle.numbers.specs.Numbers.{number_of};
+ghost use Rattle.thermal_image.specs.Canvas.{sized, finished, refused, made_new, grown, grown_on, margined, margined_on, widened, widened_on, set_width, emptied, copied, copied_on, rgb, rgb_on, rotated, rotated_on};
 ghost use Rattle.refusals.specs.Refusals.{rows_of};
 ghost use Rattle.moves.specs.declared.turned.Turn.{Turn};
 
 use colour::RGBA;
 use dots::fill_run;
 use moves::{Turn, copy_dots, move_down, rgb_bytes, turn, widen};
-use numbers::{DONE, larger_side};
+use numbers::{DONE, Refusal};
 use refusals::{
     canvas_refusal, grow_refusal, margin_refusal, out_refusal, rgb_refusal, rows_of, wide_refusal,
     widen_refusal, width_refusal,
@@ -65,15 +66,14 @@ impl ThermalImage {
     pub fn new(width: u32) -> Answer
         ensures { result ≡ made_new width }
     {
-        let number = wide_refusal(width);
-        if number != DONE {
-            let image = ThermalImage {
+        if let Err(why) = wide_refusal(width) {
+            let none = ThermalImage {
                 width: 0,
                 height: 0,
                 auto_grow: false,
                 paper_color: RGBA::BLANK,
             };
-            return Answer { number, image };
+            return none.refused(why);
         }
         let image = ThermalImage {
             width,
@@ -91,6 +91,17 @@ impl ThermalImage {
         ensures { result ≡ rows_of self.width self.height }
     {
         rows_of(self.width, self.height)
+    }
+
+    // Refused, with this canvas as given.
+    pub fn refused(self, why: Refusal) -> Answer
+        ensures { result ≡ refused (number_of why) self }
+    {
+        let number = why.number();
+        Answer {
+            number,
+            image: self,
+        }
     }
 
     // Done, with another width and height.
@@ -114,14 +125,10 @@ impl ThermalImage {
         ensures value { result ≡ grown self height (length buf.old) }
         ensures buf_after { buf.new ≡ grown_on self height buf.old }
     {
-        let number = grow_refusal(self.width, self.height, height, buf.len());
-        if number != DONE {
-            return Answer {
-                number,
-                image: self,
-            };
+        if let Err(why) = grow_refusal(self.width, self.height, height, buf.len()) {
+            return self.refused(why);
         }
-        let tall = larger_side(self.height, height);
+        let tall = self.height.max(height);
         let at = self.width as usize * self.height as usize;
         let end = self.width as usize * tall as usize;
         fill_run(buf, at, end - at, self.paper_color);
@@ -132,12 +139,8 @@ impl ThermalImage {
         ensures value { result ≡ margined self height (length buf.old) }
         ensures buf_after { buf.new ≡ margined_on self height buf.old }
     {
-        let number = margin_refusal(self.width, self.height, height, buf.len());
-        if number != DONE {
-            return Answer {
-                number,
-                image: self,
-            };
+        if let Err(why) = margin_refusal(self.width, self.height, height, buf.len()) {
+            return self.refused(why);
         }
         let dots = self.width as usize * self.height as usize;
         let by = self.width as usize * height as usize;
@@ -149,12 +152,8 @@ impl ThermalImage {
         ensures value { result ≡ widened self new_width (length buf.old) }
         ensures buf_after { buf.new ≡ widened_on self new_width buf.old }
     {
-        let number = widen_refusal(self.width, self.height, new_width, buf.len());
-        if number != DONE {
-            return Answer {
-                number,
-                image: self,
-            };
+        if let Err(why) = widen_refusal(self.width, self.height, new_width, buf.len()) {
+            return self.refused(why);
         }
         if new_width <= self.width {
             return self.sized(self.width, self.height);
@@ -174,12 +173,8 @@ impl ThermalImage {
     pub fn set_width(self, width: u32, buf: &[u8]) -> Answer
         ensures { result ≡ set_width self width (length buf.now) }
     {
-        let number = width_refusal(self.width, self.height, width, buf.len());
-        if number != DONE {
-            return Answer {
-                number,
-                image: self,
-            };
+        if let Err(why) = width_refusal(self.width, self.height, width, buf.len()) {
+            return self.refused(why);
         }
         self.sized(width, 0)
     }
@@ -187,12 +182,8 @@ impl ThermalImage {
     pub fn empty(self, buf: &[u8]) -> Answer
         ensures { result ≡ emptied self (length buf.now) }
     {
-        let number = canvas_refusal(self.width, self.height, buf.len());
-        if number != DONE {
-            return Answer {
-                number,
-                image: self,
-            };
+        if let Err(why) = canvas_refusal(self.width, self.height, buf.len()) {
+            return self.refused(why);
         }
         self.sized(self.width, 0)
     }
@@ -207,10 +198,9 @@ impl ThermalImage {
         ensures value { result ≡ copied self (length buf.now) (length out.old) }
         ensures out_after { out.new ≡ copied_on self buf.now out.old }
     {
-        let number = out_refusal(self.width, self.height, buf.len(), out.len());
-        if number != DONE {
+        if let Err(why) = out_refusal(self.width, self.height, buf.len(), out.len()) {
             return Copied {
-                number,
+                number: why.number(),
                 width: 0,
                 height: 0,
             };
@@ -228,10 +218,9 @@ impl ThermalImage {
         ensures value { result ≡ rgb self (length buf.now) (length out.old) }
         ensures out_after { out.new ≡ rgb_on self buf.now out.old }
     {
-        let number = rgb_refusal(self.width, self.height, buf.len(), out.len());
-        if number != DONE {
+        if let Err(why) = rgb_refusal(self.width, self.height, buf.len(), out.len()) {
             return Rgb {
-                number,
+                number: why.number(),
                 image: self,
                 width: 0,
                 height: 0,
@@ -274,12 +263,8 @@ impl ThermalImage {
         ensures value { result ≡ rotated by self (length buf.now) (length out.old) }
         ensures out_after { out.new ≡ rotated_on by self buf.now out.old }
     {
-        let number = out_refusal(self.width, self.height, buf.len(), out.len());
-        if number != DONE {
-            return Answer {
-                number,
-                image: self,
-            };
+        if let Err(why) = out_refusal(self.width, self.height, buf.len(), out.len()) {
+            return self.refused(why);
         }
         turn(buf, self.width as usize, self.height as usize, by, out);
         let width = turned_wide(by, self.width, self.height);

@@ -1,12 +1,11 @@
--- `thermal_image::ThermalImage::empty` meets its contract. Assumes nothing.
 use Rattle.thermal_image.specs.Canvas.{emptied}
-use Rattle.thermal_image.proofs.Answers.{refused, did}
+use Rattle.thermal_image.proofs.Answers.{refuses, did}
 use Rattle.thermal_image.proofs.ThermalImage.empty.Goals as goal
 
-pub returns-then-number-ne-DONE : goal.returns-then-number-ne-DONE
+pub returns-in-Err : goal.returns-in-Err
 unfolding emptied
-returns-then-number-ne-DONE c = refused c.canvas_refusal-number.ensures _ _ c.if-number-ne-DONE.true
+returns-in-Err c = refuses _ c.in-Err.ensures _ _ c.refused.ensures
 
 pub returns : goal.returns
 unfolding emptied
-returns c = did c.canvas_refusal-number.ensures _ _ c.if-number-ne-DONE.false c.sized.ensures
+returns c = did c.in_default.ensures _ _ c.sized.ensures
