@@ -1,8 +1,7 @@
 // What cropping leaves, and the height that drawing comes to.
-ghost use Rattle.std.specs.Prelude.{◌≡◌, ◌-◌};
+ghost use Rattle.std.specs.Prelude.{◌≡◌};
 ghost use Rattle.places.specs.Places.{cropped, crop_wide, crop_tall, tall_after, flip_tall, flips, image_tall};
 
-use numbers::{larger, smaller_side};
 use thermal_image::ThermalImage;
 
 // What is left of an image that is cropped, or all of one that is not.
@@ -10,15 +9,6 @@ use thermal_image::ThermalImage;
 pub struct Crop {
     pub w: u32,
     pub h: u32,
-}
-
-fn left_of(end: u32, at: u32) -> u32
-    ensures { result ≡ end - at }
-{
-    if end < at {
-        return 0;
-    }
-    end - at
 }
 
 pub(crate) fn cropped(t: ThermalImage, x: u32, y: u32, w: u32) -> bool
@@ -39,11 +29,11 @@ pub fn crop_pixels(t: ThermalImage, x: u32, y: u32, w: u32, h: u32) -> Crop
     if !cropped(t, x, y, w) {
         return Crop { w, h };
     }
-    let wide = smaller_side(w, left_of(t.width, x));
+    let wide = w.min(t.width.saturating_sub(x));
     if t.auto_grow {
         return Crop { w: wide, h };
     }
-    let tall = smaller_side(h, left_of(t.height, y));
+    let tall = h.min(t.height.saturating_sub(y));
     Crop { w: wide, h: tall }
 }
 
@@ -51,25 +41,19 @@ pub fn tall_after(t: ThermalImage, x: u32, y: u32, w: u32, h: u32) -> usize
     ensures { result ≡ tall_after t x y w h }
 {
     let c = crop_pixels(t, x, y, w, h);
-    larger(t.height as usize, y as usize + c.h as usize)
+    (t.height as usize).max(y as usize + c.h as usize)
 }
 
 pub fn flip_tall(t: ThermalImage, y: u32, h: u32) -> usize
     ensures { result ≡ flip_tall t y h }
 {
-    larger(t.height as usize, y as usize + h as usize)
+    (t.height as usize).max(y as usize + h as usize)
 }
 
 pub fn flips(upside_down: bool, t: ThermalImage, x: u32, w: u32, h: u32) -> bool
     ensures { result ≡ flips upside_down t x w h }
 {
-    if !upside_down {
-        return false;
-    }
-    if w == 0 {
-        return false;
-    }
-    if h == 0 {
+    if !upside_down || w == 0 || h == 0 {
         return false;
     }
     x as usize + w as usize <= t.width as usize
@@ -80,7 +64,7 @@ pub fn image_tall(upside_down: bool, t: ThermalImage, x: u32, y: u32, w: u32, h:
 {
     let tall = tall_after(t, x, y, w, h);
     if flips(upside_down, t, x, w, h) {
-        return larger(tall, y as usize + h as usize);
+        return tall.max(y as usize + h as usize);
     }
     tall
 }

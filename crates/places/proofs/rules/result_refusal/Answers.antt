@@ -1,9 +1,7 @@
--- `places::rules::result_refusal` meets its contract. Assumes nothing.
-use mathlib.Core.Path.{refl, ◌∙◌}
-use native.Mathlib.Omega.{arith}
+use Rattle.std.proofs.Common.{refl, arith}
 use borrow.Author.Tests.{lt-ltb, le-ltb}
 use Rattle.refusals.specs.Refusals.{tall_refusal}
-use Rattle.refusals.proofs.Codes.{first_some, first-none}
+use Rattle.refusals.proofs.Codes.{first_some, passing}
 use Rattle.places.specs.Places.{result_refusal}
 use Rattle.places.proofs.rules.result_refusal.Goals as goal
 
@@ -13,4 +11,4 @@ returns-then-rows c = rw (lt-ltb _ _ c.if-rows.true) (first_some _ _ (λ e. omeg
 
 pub returns : goal.returns
 unfolding result_refusal tall_refusal
-returns c = rw (le-ltb _ _ c.if-rows.false) (c.room_refusal.ensures ∙ first-none _ _ refl)
+returns c = rw (le-ltb _ _ c.if-rows.false) (passing refl c.room_refusal.ensures)
