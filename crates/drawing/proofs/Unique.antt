@@ -1,5 +1,6 @@
 -- Each entry's contract leaves one answer and one content of the buffer that it may write to. Assumes nothing.
 use Rattle.numbers.proofs.OneAnswer.{OneAnswer, OneContent, both}
+use Rattle.numbers.proofs.Refusals.{one_answer}
 use Rattle.drawing.proofs.put.put_pixels.Reads as put-pixels
 use Rattle.drawing.proofs.put.put_render_img.Reads as put-render-img
 use Rattle.drawing.proofs.rect.draw_rect.Reads as draw-rect
@@ -38,7 +39,7 @@ flip-pixels-content : OneContent flip-pixels.Post (λ k e. e.1.1.1.1.1.0.now)
 flip-pixels-content k a x y e f p q = both p.1 q.1
 
 draw-border-one : OneAnswer draw-border.Post
-draw-border-one k a x y e f p q = both p.0 q.0
+draw-border-one k a x y e f p q = one_answer x y (both p.0 q.0)
 
 draw-border-content : OneContent draw-border.Post (λ k e. e.1.1.1.0.now)
 draw-border-content k a x y e f p q = both p.1 q.1

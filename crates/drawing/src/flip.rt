@@ -3,7 +3,6 @@ ghost use Rattle.std.specs.Prelude.{◌≡◌, length};
 ghost use Rattle.drawing.specs.Drawing.{flip, flip_on};
 
 use areas::flip_area;
-use numbers::DONE;
 use places::{flip_refusal, flip_tall};
 use thermal_image::{Answer, ThermalImage};
 
@@ -11,9 +10,8 @@ pub fn flip_pixels(image: ThermalImage, x: u32, y: u32, w: u32, h: u32, buf: &mu
     ensures value { result ≡ flip image x y w h (length buf.old) }
     ensures buf_after { buf.new ≡ flip_on image x y w h buf.old }
 {
-    let number = flip_refusal(image, x, y, w, h, buf.len());
-    if number != DONE {
-        return Answer { number, image };
+    if let Err(why) = flip_refusal(image, x, y, w, h, buf.len()) {
+        return image.refused(why);
     }
     let rows = flip_tall(image, y, h);
     let answer = image.expand_to_height(rows as u32, buf);

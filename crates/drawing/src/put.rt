@@ -5,7 +5,6 @@ ghost use Rattle.drawing.specs.Drawing.{placed, pixels_drawn, put, put_on, image
 ghost use Rattle.places.specs.Steps.{Ready};
 
 use areas::{flip_area, put_area};
-use numbers::DONE;
 use places::{crop_pixels, flips, image_tall, place_refusal, tall_after};
 use thermal_image::{Answer, ThermalImage};
 
@@ -56,9 +55,8 @@ pub fn put_pixels(
     ensures buf_after { buf.new ≡ put_on multiply image x y w h pixels.now buf.old }
 {
     let rows = tall_after(image, x, y, w, h);
-    let number = place_refusal(image, x, y, w, h, pixels.len(), rows, buf.len());
-    if number != DONE {
-        return Answer { number, image };
+    if let Err(why) = place_refusal(image, x, y, w, h, pixels.len(), rows, buf.len()) {
+        return image.refused(why);
     }
     put_on(image, x, y, w, h, rows, pixels, multiply, buf)
 }
@@ -77,9 +75,8 @@ pub fn put_render_img(
     ensures buf_after { buf.new ≡ image_on upside_down image x y w h pixels.now buf.old }
 {
     let rows = image_tall(upside_down, image, x, y, w, h);
-    let number = place_refusal(image, x, y, w, h, pixels.len(), rows, buf.len());
-    if number != DONE {
-        return Answer { number, image };
+    if let Err(why) = place_refusal(image, x, y, w, h, pixels.len(), rows, buf.len()) {
+        return image.refused(why);
     }
     let answer = put_on(image, x, y, w, h, rows, pixels, true, buf);
     if flips(upside_down, image, x, w, h) {

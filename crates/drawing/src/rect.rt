@@ -4,7 +4,6 @@ ghost use Rattle.drawing.specs.Drawing.{rect, rect_on};
 
 use areas::draw_area;
 use colour::RGBA;
-use numbers::DONE;
 use places::{crop_pixels, rect_refusal, tall_after};
 use thermal_image::{Answer, ThermalImage};
 
@@ -22,9 +21,8 @@ pub fn draw_rect(
     ensures buf_after { buf.new ≡ rect_on multiply image x y w h color buf.old }
 {
     let rows = tall_after(image, x, y, w, h);
-    let number = rect_refusal(image, x, y, w, h, rows, buf.len());
-    if number != DONE {
-        return Answer { number, image };
+    if let Err(why) = rect_refusal(image, x, y, w, h, rows, buf.len()) {
+        return image.refused(why);
     }
     let c = crop_pixels(image, x, y, w, h);
     let answer = image.expand_to_height(rows as u32, buf);

@@ -1,20 +1,18 @@
--- `drawing::border::draw_border` meets its contract. Assumes nothing.
-use mathlib.Core.Path.{sym, ◌∙◌}
-use Rattle.thermal_image.proofs.Answers.{kept, changed}
+use Rattle.std.proofs.Common.{sym, ◌∙◌}
+use Rattle.numbers.proofs.Refusals.{handed}
+use Rattle.thermal_image.proofs.Answers.{keeps, changes}
 use Rattle.drawing.specs.Drawing.{border_on}
 use Rattle.places.proofs.Codes.{border-done}
 use Rattle.drawing.proofs.border.draw_border.Goals as goal
 
-pub returns-then-number-ne-DONE : goal.returns-then-number-ne-DONE
+pub returns-in_err-border_refusal : goal.returns-in_err-border_refusal
 unfolding border_on
-returns-then-number-ne-DONE c =
-    let g = c.border_refusal-number.ensures in record { value = g; buf_after = kept g _ _ c.if-number-ne-DONE.true }
+returns-in_err-border_refusal c =
+    record { value = handed _ _ c.from_residual.ensures.1 ∙ c.in_err-border_refusal.ensures; buf_after = keeps _ c.in_err-border_refusal.ensures _ _ }
 
 pub border_area-requires : goal.border_area-requires
-border_area-requires c = border-done _ _ _ (sym c.border_refusal-number.ensures ∙ c.if-number-ne-DONE.false)
+border_area-requires c = border-done _ _ _ (sym c.in_ok-border_refusal.ensures)
 
 pub returns : goal.returns
 unfolding border_on
-returns c =
-    let g = c.border_refusal-number.ensures in
-    record { value = sym c.if-number-ne-DONE.false ∙ g; buf_after = changed g _ _ c.if-number-ne-DONE.false c.border_area.ensures }
+returns c = record { value = c.in_ok-border_refusal.ensures; buf_after = changes c.in_ok-border_refusal.ensures _ _ c.border_area.ensures }

@@ -1,8 +1,7 @@
--- `drawing::flip::flip_pixels` meets its contract. Assumes nothing.
 use mathlib.Core.Path.{sym, ◌∙◌}
 use native.Mathlib.Omega.{arith}
 use lib.ListN.{length}
-use Rattle.thermal_image.proofs.Answers.{refused, did, kept, changed}
+use Rattle.thermal_image.proofs.Answers.{refuses, did, keeps, changes}
 use Rattle.drawing.specs.Drawing.{drew, flip, flip_on}
 use Rattle.places.proofs.Codes.{Flips, flip-done}
 use Rattle.drawing.proofs.Growing.{grows-within, grew}
@@ -10,12 +9,12 @@ use Rattle.drawing.proofs.flip.flip_pixels.Goals as goal
 use Rattle.drawing.proofs.flip.flip_pixels.Goals.{After-flip_tall-rows}
 
 bounds : (c : After-flip_tall-rows) → let p = c.args in Flips p.image p.x p.y p.w p.h c.flip_tall-rows.result (length p.buf.now)
-bounds c = flip-done _ _ _ _ _ _ c.flip_tall-rows.ensures (sym c.flip_refusal-number.ensures ∙ c.if-number-ne-DONE.false)
+bounds c = flip-done _ _ _ _ _ _ c.flip_tall-rows.ensures (sym c.in_default.ensures)
 
-pub returns-then-number-ne-DONE : goal.returns-then-number-ne-DONE
+pub returns-in-Err : goal.returns-in-Err
 unfolding flip drew flip_on
-returns-then-number-ne-DONE c =
-    let g = c.flip_refusal-number.ensures in record { value = refused g _ _ c.if-number-ne-DONE.true; buf_after = kept g _ _ c.if-number-ne-DONE.true }
+returns-in-Err c =
+    record { value = refuses _ c.in-Err.ensures _ _ c.refused.ensures; buf_after = keeps _ c.in-Err.ensures _ _ }
 
 pub overflow_cast-rows : goal.overflow_cast-rows
 overflow_cast-rows c = let f = bounds (goal.at.overflow_cast-rows c).After-flip_tall-rows in omega (arith, grows-within _ _ _ f.more _ f.grows)
@@ -30,6 +29,5 @@ unfolding flip drew flip_on
 returns c =
     let f = bounds (goal.at.returns c).After-flip_tall-rows in
     let s = c.flip_tall-rows.ensures in
-    let n = c.flip_refusal-number.ensures in
     let g = grew _ _ _ (omega (arith, f.on)) f.more f.grows c.expand_to_height-answer.ensures.value c.expand_to_height-answer.ensures.buf_after in
-    record { value = did n _ _ c.if-number-ne-DONE.false (g.answer ∙ rw s); buf_after = changed n _ _ c.if-number-ne-DONE.false (c.flip_area.ensures ∙ rw (g.bytes, s)) }
+    record { value = did c.in_default.ensures _ _ (g.answer ∙ rw s); buf_after = changes c.in_default.ensures _ _ (c.flip_area.ensures ∙ rw (g.bytes, s)) }

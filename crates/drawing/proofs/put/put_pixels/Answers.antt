@@ -1,30 +1,20 @@
--- `drawing::put::put_pixels` meets its contract. Assumes nothing.
-use mathlib.Core.Path.{◌≡◌, sym, ◌∙◌}
-use lib.ListN.{length}
-use Rattle.thermal_image.proofs.Answers.{refused, did, kept, changed}
+use mathlib.Core.Path.{sym, ◌∙◌}
+use Rattle.thermal_image.proofs.Answers.{refuses, did, keeps, changes}
 use Rattle.places.specs.Places.{put_refusal}
 use Rattle.drawing.specs.Drawing.{drew, put, put_on}
 use Rattle.places.proofs.Codes.{put-ready}
 use Rattle.drawing.proofs.put.put_pixels.Goals as goal
-use Rattle.drawing.proofs.put.put_pixels.Goals.{After-place_refusal-number}
 
-numbered : (c : After-place_refusal-number) → let p = c.args in
-    c.place_refusal-number.result ≡ put_refusal p.image p.x p.y p.w p.h (length p.pixels.now) (length p.buf.now)
-unfolding put_refusal
-numbered c = c.place_refusal-number.ensures ∙ rw c.tall_after-rows.ensures
-
-pub returns-then-number-ne-DONE : goal.returns-then-number-ne-DONE
-unfolding put drew put_on
-returns-then-number-ne-DONE c =
-    let g = numbered (goal.at.returns-then-number-ne-DONE c).After-place_refusal-number in record { value = refused g _ _ c.if-number-ne-DONE.true; buf_after = kept g _ _ c.if-number-ne-DONE.true }
+pub returns-in-Err : goal.returns-in-Err
+unfolding put drew put_on put_refusal
+returns-in-Err c =
+    let g = rw c.tall_after-rows.ensures at c.in-Err.ensures in record { value = refuses _ g _ _ c.refused.ensures; buf_after = keeps _ g _ _ }
 
 pub put_on-requires : goal.put_on-requires
-put_on-requires c =
-    put-ready _ _ _ _ _ _ _ c.tall_after-rows.ensures (sym c.place_refusal-number.ensures ∙ c.if-number-ne-DONE.false)
+put_on-requires c = put-ready _ _ _ _ _ _ _ c.tall_after-rows.ensures (sym c.in_default.ensures)
 
 pub returns : goal.returns
-unfolding put drew put_on
+unfolding put drew put_on put_refusal
 returns c =
-    let g = numbered (goal.at.returns c).After-place_refusal-number in
     let e = c.tall_after-rows.ensures in
-    record { value = did g _ _ c.if-number-ne-DONE.false (c.put_on.ensures.value ∙ rw e); buf_after = changed g _ _ c.if-number-ne-DONE.false (c.put_on.ensures.buf_after ∙ rw e) }
+    let g = rw e at c.in_default.ensures in record { value = did g _ _ (c.put_on.ensures.value ∙ rw e); buf_after = changes g _ _ (c.put_on.ensures.buf_after ∙ rw e) }
