@@ -1,11 +1,12 @@
 // Decoding of printer images, as in the Rust's graphics.rs: raster, column and layered images
 // become dots in an output that the caller lends.
-#![tactic(auto)]
+#![tactic(auto, using(std::proofs::lemmas::Bool::Decides::nat_tests), unfolding(crate::specs::Layers::outgrown))]
 
 mod layers;
 mod refusals;
 
 ghost use Rattle.std.specs.Prelude.{◌≡◌, length};
+ghost use Rattle.numbers.specs.Numbers.{number_of};
 ghost use Rattle.images.specs.Formats.{raster_of};
 ghost use Rattle.images.specs.declared.formats.Format.{Format};
 ghost use Rattle.graphics.specs.Decoding.{decoded, decoded_on};
@@ -14,7 +15,7 @@ ghost use Rattle.graphics.specs.Layers.{merged, merged_on};
 use colour::{RGBA, RenderColors};
 use images::{Format, Source, decode_single_color, factor_of, raster_of};
 use layers::merge_image_layers;
-use numbers::DONE;
+use numbers::{DONE, Refusal};
 use refusals::{layers_refusal, refusal_of};
 
 // What a decoder answers: the number, and the stretched width and height.
@@ -24,6 +25,18 @@ pub struct Decoded {
     pub number: u8,
     pub w: u32,
     pub h: u32,
+}
+
+impl Decoded {
+    fn refused(why: Refusal) -> Decoded
+        ensures { result ≡ record { number = number_of why; w = 0; h = 0 } }
+    {
+        Decoded {
+            number: why.number(),
+            w: 0,
+            h: 0,
+        }
+    }
 }
 
 pub fn image_from_raster_bytes_single_color(
@@ -90,9 +103,8 @@ fn image_from_bytes(
 {
     let fx = factor_of(stretch_x);
     let fy = factor_of(stretch_y);
-    let number = refusal_of(format, width, height, fx, fy, data.len(), out.len());
-    if number != DONE {
-        return Decoded { number, w: 0, h: 0 };
+    if let Err(why) = refusal_of(format, width, height, fx, fy, data.len(), out.len()) {
+        return Decoded::refused(why);
     }
     let source = Source {
         format,
@@ -126,7 +138,7 @@ pub fn image_from_raster_bytes_multi_color(
 {
     let fx = factor_of(stretch_x);
     let fy = factor_of(stretch_y);
-    let number = layers_refusal(
+    if let Err(why) = layers_refusal(
         process_as_bits,
         width,
         height,
@@ -135,9 +147,8 @@ pub fn image_from_raster_bytes_multi_color(
         num_colors,
         data.len(),
         out.len(),
-    );
-    if number != DONE {
-        return Decoded { number, w: 0, h: 0 };
+    ) {
+        return Decoded::refused(why);
     }
     let source = Source {
         format: raster_of(process_as_bits),

@@ -1,11 +1,11 @@
 // What an image is refused for, from its sizes and lengths alone.
 ghost use Rattle.std.specs.Prelude.{◌≡◌, ◌*◌, ◌≤◌};
-ghost use Rattle.numbers.specs.Numbers.{limit};
+ghost use Rattle.numbers.specs.Numbers.{limit, number};
 ghost use Rattle.graphics.specs.Decoding.{lacks_room, refusal};
 ghost use Rattle.graphics.specs.Layers.{layer_bytes, outgrown, layers_refusal};
 
 use images::{Format, bytes_of, is_large, raster_of};
-use numbers::{DONE, LAYER_SIZE, NO_LAYERS, NO_ROOM, TOO_LARGE, WRONG_LENGTH};
+use numbers::Refusal;
 
 fn lacks_room(w: u32, h: u32, fx: u32, fy: u32, room: usize) -> bool
     requires { (w * fx ≤ limit) × (h * fy ≤ limit) }
@@ -14,20 +14,28 @@ fn lacks_room(w: u32, h: u32, fx: u32, fy: u32, room: usize) -> bool
     room < 4 * ((w * fx) as usize * (h * fy) as usize)
 }
 
-pub fn refusal_of(format: Format, w: u32, h: u32, fx: u32, fy: u32, n: usize, room: usize) -> u8
+pub fn refusal_of(
+    format: Format,
+    w: u32,
+    h: u32,
+    fx: u32,
+    fy: u32,
+    n: usize,
+    room: usize,
+) -> Result<(), Refusal>
     requires { (fx ≤ 255) × (fy ≤ 255) }
-    ensures { result ≡ refusal format w h fx fy n room }
+    ensures { number result ≡ refusal format w h fx fy n room }
 {
     if is_large(w, h, fx, fy) {
-        return TOO_LARGE;
+        return Err(Refusal::TooLarge);
     }
     if n != bytes_of(format, w, h) {
-        return WRONG_LENGTH;
+        return Err(Refusal::WrongLength);
     }
     if lacks_room(w, h, fx, fy, room) {
-        return NO_ROOM;
+        return Err(Refusal::NoRoom);
     }
-    DONE
+    Ok(())
 }
 
 pub fn layer_bytes(bits: bool, w: usize, h: usize) -> usize
@@ -44,10 +52,7 @@ pub fn layer_bytes(bits: bool, w: usize, h: usize) -> usize
 fn outgrows(w: u32, h: u32, later_w: u32, later_h: u32) -> bool
     ensures { result ≡ outgrown w h later_w later_h }
 {
-    if w < later_w {
-        return true;
-    }
-    h < later_h
+    w < later_w || h < later_h
 }
 
 pub fn layers_refusal(
@@ -59,28 +64,28 @@ pub fn layers_refusal(
     n: u8,
     size: usize,
     room: usize,
-) -> u8
+) -> Result<(), Refusal>
     requires { (fx ≤ 255) × (fy ≤ 255) }
-    ensures { result ≡ layers_refusal bits w h fx fy n size room }
+    ensures { number result ≡ layers_refusal bits w h fx fy n size room }
 {
     if is_large(w, h, fx, fy) {
-        return TOO_LARGE;
+        return Err(Refusal::TooLarge);
     }
     let layer = layer_bytes(bits, w as usize, h as usize);
     if size != (n as usize) * (1 + layer) {
-        return WRONG_LENGTH;
+        return Err(Refusal::WrongLength);
     }
     if n == 0 {
-        return NO_LAYERS;
+        return Err(Refusal::NoLayers);
     }
     if layer != bytes_of(raster_of(bits), w, h) {
-        return WRONG_LENGTH;
+        return Err(Refusal::WrongLength);
     }
     if outgrows(w * fx, h * fy, w * fx, h * fy) {
-        return LAYER_SIZE;
+        return Err(Refusal::LayerSize);
     }
     if lacks_room(w, h, fx, fy, room) {
-        return NO_ROOM;
+        return Err(Refusal::NoRoom);
     }
-    DONE
+    Ok(())
 }
