@@ -1,5 +1,6 @@
 -- Each public function's contract leaves one answer. Assumes nothing.
 use Rattle.numbers.proofs.OneAnswer.{OneAnswer, both}
+use Rattle.numbers.proofs.Refusals.{one_answer}
 use Rattle.job.proofs.bytes.read_u16.Reads as read-u16
 use Rattle.job.proofs.bytes.read_u32.Reads as read_u32
 use Rattle.job.proofs.bytes.read_rgba.Reads as read-rgba
@@ -12,13 +13,13 @@ use Rattle.job.proofs.dropping.height_after.Reads as height-after
 use Rattle.job.proofs.job_refusal.Reads as job-refusal
 
 job-refusal-one : OneAnswer job-refusal.Post
-job-refusal-one k a x y e f p q = both p q
+job-refusal-one k a x y e f p q = one_answer x y (both p q)
 
 next-record-one : OneAnswer next-record.Post
 next-record-one k a x y e f p q = both p q
 
 command-reason-one : OneAnswer command-reason.Post
-command-reason-one k a x y e f p q = both p q
+command-reason-one k a x y e f p q = one_answer x y (both p q)
 
 height-after-one : OneAnswer height-after.Post
 height-after-one k a x y e f p q = both p q

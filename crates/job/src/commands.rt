@@ -46,42 +46,24 @@ pub(crate) fn sound_paper(s: &[u8], kind: u16, at: usize, n: usize) -> bool
     requires { at + n ≤ length s.now }
     ensures { result ≡ sound_paper s.now kind at n }
 {
-    if kind != PAPER {
-        return false;
-    }
-    if n != PAPER_SIZE {
+    if kind != PAPER || n != PAPER_SIZE {
         return false;
     }
     let w = read_u32(s, at);
-    if w < 1 {
-        return false;
-    }
-    w <= LIMIT
+    1 <= w && w <= LIMIT
 }
 
 pub(crate) fn sound_command(s: &[u8], kind: u16, at: usize, n: usize) -> bool
     requires { at + n ≤ length s.now }
     ensures { result ≡ sound_command s.now kind at n }
 {
-    if kind == RECTANGLE {
-        if n == RECTANGLE_SIZE {
-            return s[at + 20] <= MULTIPLY;
-        }
-        return false;
+    match kind {
+        RECTANGLE => n == RECTANGLE_SIZE && s[at + 20] <= MULTIPLY,
+        IMAGE => n >= IMAGE_SIZE && s[at + 22] <= MULTIPLY,
+        MARGIN => n == MARGIN_SIZE,
+        FLIP => n == FLIP_SIZE,
+        _ => false,
     }
-    if kind == IMAGE {
-        if n >= IMAGE_SIZE {
-            return s[at + 22] <= MULTIPLY;
-        }
-        return false;
-    }
-    if kind == MARGIN {
-        return n == MARGIN_SIZE;
-    }
-    if kind == FLIP {
-        return n == FLIP_SIZE;
-    }
-    false
 }
 
 pub fn paper_width(s: &[u8]) -> u32
@@ -148,14 +130,10 @@ pub fn command_at(s: &[u8], kind: u16, at: usize, n: usize) -> Command
     requires { (at + n ≤ length s.now) × (sound_command s.now kind at n ≡ true) }
     ensures { result ≡ command_at s.now kind at n }
 {
-    if kind == RECTANGLE {
-        return rectangle_at(s, at);
+    match kind {
+        RECTANGLE => rectangle_at(s, at),
+        IMAGE => image_at(s, at, n),
+        MARGIN => Command::Margin(read_u32(s, at)),
+        _ => flip_at(s, at),
     }
-    if kind == IMAGE {
-        return image_at(s, at, n);
-    }
-    if kind == MARGIN {
-        return Command::Margin(read_u32(s, at));
-    }
-    flip_at(s, at)
 }

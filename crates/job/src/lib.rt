@@ -1,6 +1,6 @@
 // Jobs: the bytes of a strip as records, and those as commands; what a job is refused for, and what
 // a command is dropped for. What a job draws is told elsewhere.
-#![tactic(auto)]
+#![tactic(auto, using(std::proofs::lemmas::Bool::Decides::nat_tests), unfolding(crate::specs::Commands::sound_paper, crate::specs::Commands::sound_command, crate::specs::Commands::command_at, crate::specs::Records::le16, crate::specs::Records::le32, crate::specs::Records::rgba_at, crate::specs::Records::record_at))]
 
 mod bytes;
 mod commands;
@@ -9,22 +9,23 @@ pub mod kinds;
 mod records;
 
 ghost use Rattle.std.specs.Prelude.{◌≡◌, ◌≤◌, length};
+ghost use Rattle.numbers.specs.Numbers.{number};
 ghost use Rattle.job.specs.Records.{records};
 ghost use Rattle.job.specs.Commands.{sound_commands, commands_in};
-ghost use Rattle.job.specs.Dropping.{number_of, job_refusal};
+ghost use Rattle.job.specs.Dropping.{number_of as job_number, job_refusal};
 
 pub use bytes::{read_rgba, read_u16, read_u32};
 pub use commands::{Command, command_at, paper_color, paper_width};
 use commands::{sound_command, sound_paper};
 pub use dropping::{Dropped, command_reason, height_after};
 use kinds::MOST_COMMANDS;
-use numbers::{BAD_JOB, DONE, TOO_LONG};
+use numbers::Refusal;
 pub use records::{Rec, next_record};
 
 // The number that the records from `at` on give, all of which are to be commands.
-fn rest_refusal(s: &[u8], at: usize) -> u8
+fn rest_refusal(s: &[u8], at: usize) -> Result<(), Refusal>
     requires { at ≤ length s.now }
-    ensures { result ≡ number_of (sound_commands s.now (records s.now at)) (commands_in s.now (records s.now at)) }
+    ensures { number result ≡ job_number (sound_commands s.now (records s.now at)) (commands_in s.now (records s.now at)) }
 {
     let mut place = at;
     let mut count: usize = 0;
@@ -40,24 +41,24 @@ fn rest_refusal(s: &[u8], at: usize) -> u8
                     place = next;
                     count += 1;
                 } else {
-                    return BAD_JOB;
+                    return Err(Refusal::BadJob);
                 }
             }
             Rec::Bad => {
-                return BAD_JOB;
+                return Err(Refusal::BadJob);
             }
             Rec::End => {
                 if count > MOST_COMMANDS {
-                    return TOO_LONG;
+                    return Err(Refusal::TooLong);
                 }
-                return DONE;
+                return Ok(());
             }
         }
     }
 }
 
-pub fn job_refusal(s: &[u8]) -> u8
-    ensures { result ≡ job_refusal s.now }
+pub fn job_refusal(s: &[u8]) -> Result<(), Refusal>
+    ensures { number result ≡ job_refusal s.now }
 {
     match next_record(s, 0) {
         Rec::Record {
@@ -69,9 +70,8 @@ pub fn job_refusal(s: &[u8]) -> u8
             if sound_paper(s, kind, start, size) {
                 return rest_refusal(s, next);
             }
-            BAD_JOB
+            Err(Refusal::BadJob)
         }
-        Rec::Bad => BAD_JOB,
-        Rec::End => BAD_JOB,
+        Rec::Bad | Rec::End => Err(Refusal::BadJob),
     }
 }

@@ -6,7 +6,7 @@ use mathlib.Core.Bool.{Bool, true, false, not, ◌&&◌, ◌||◌}
 use Prim.Native.Nat.{ℕ, ◌+◌, ◌*◌, ◌≤◌, ◌<◌, max}
 use native.Mathlib.Omega.{arith}
 use lib.Dec.{ltb, leb, eqb}
-use borrow.Author.Tests.{ltb-false, leb-false, eqb-true, eqb-false, le-ltb, lt-leb, eq-eqb, ne_eqb}
+use borrow.Author.Tests.{ltb-false, leb-false, eqb-true, eqb-false, lt-leb, eq-eqb, ne_eqb}
 use Rattle.numbers.specs.declared.refusal.Refusal.{Refusal}
 use Rattle.numbers.specs.Numbers.{limit, done, number_of, number}
 use Rattle.numbers.proofs.Refusals.{refused, handed}
@@ -103,15 +103,6 @@ empty-done w h e =
 pub rows-some : (W H : ℕ) → 0 < W → rows_of W H ≡ H
 unfolding rows_of
 rows-some W H h = rw (ne_eqb W 0 (λ e. omega arith))
-
--- the height without a width
-pub flat-test : (w h : ℕ) → ltb (rows_of w h) h ≡ (eqb w 0 && ltb 0 h)
-unfolding rows_of
-flat-test w h = go (eqb w 0)
-  where
-    go : (t : Bool) → ltb (if t then 0 else h) h ≡ (t && ltb 0 h)
-    go true = refl
-    go false = le-ltb h h (omega arith)
 
 pub record Sound (W H n : ℕ) : Type 0 where
   pub width : W ≤ limit

@@ -1,5 +1,6 @@
 -- `job::job_refusal` meets its contract. Assumes nothing.
 use mathlib.Core.Path.{sym, ◌∙◌}
+use mathlib.Core.Logic.{⊎_elim}
 use native.Mathlib.Omega.{arith}
 use Rattle.job.proofs.Found.{found}
 use Rattle.job.proofs.Walk.{job-empty, job-bad, job-no-paper, job-rest}
@@ -22,7 +23,5 @@ returns-else-sound_paper c =
     job-no-paper _ (sym c.in-Record.is ∙ c.next_record.ensures) (sym c.if-sound_paper.false ∙ c.sound_paper.ensures)
 
 pub returns-in-Bad : goal.returns-in-Bad
-returns-in-Bad c = job-bad _ (sym c.in-Bad.is ∙ c.next_record.ensures)
-
-pub returns-in-End : goal.returns-in-End
-returns-in-End c = job-empty _ (sym c.in-End.is ∙ c.next_record.ensures)
+returns-in-Bad c =
+    ⊎_elim (λ e. job-bad _ (sym e ∙ c.next_record.ensures)) (λ e. job-empty _ (sym e ∙ c.next_record.ensures)) c.in-Bad.is
