@@ -190,6 +190,12 @@ module _ (s : List ℕ) (at : ℕ) (g : Left s at) where
   pub left-bad : Bad ≡ record_at s at → ⊥
   left-bad e = true≢false (sym g.sound ∙ sound-bad s at e)
 
+  -- where no record is left, the end is
+  pub left-end : (r : Rec) → r ≡ record_at s at → ((k st n nx : ℕ) → r ≡ Record k st n nx → ⊥) → End ≡ record_at s at
+  left-end (Record k st n nx) e none = absurd (none k st n nx refl)
+  left-end Bad e none = absurd (left-bad e)
+  left-end End e none = e
+
 -- ---- such a walk with k commands behind it: the height is H so far, ks were kept, and ds is the list of those dropped
 
 pub record Looked (s : List ℕ) (k at H : ℕ) (ks : List Command) (ds : List Dropped) : Type 0 where

@@ -97,5 +97,8 @@ unfoldable pub plan_of : List ℕ → Plan
 plan_of s = plan_with (paper_width s) (paper_color s) (job_height s) (entries_of (paper_width s) (kept_of s)) (job_dropped s)
 
 -- a refusal gives a plan of zeros
+abbrev pub refused_with : ℕ → Translated
+refused_with number = record { number = number; plan = plan_with 0 blank 0 [] [] }
+
 unfoldable pub translated : List ℕ → Translated
 translated s = record { number = translate_refusal s; plan = if eqb (translate_refusal s) done then plan_of s else plan_with 0 blank 0 [] [] }

@@ -4,16 +4,16 @@
 mod steps;
 
 ghost use Rattle.std.specs.Prelude.{◌≡◌, false, []};
-ghost use Rattle.numbers.specs.Numbers.{done};
+ghost use Rattle.numbers.specs.Numbers.{done, number_of};
 ghost use Rattle.job.specs.Commands.{commands};
 ghost use Rattle.job.specs.Dropping.{job_refusal};
-ghost use Rattle.plan.specs.Plan.{no_entry, plan_with, plan_of, has_flip, translated};
+ghost use Rattle.plan.specs.Plan.{no_entry, plan_with, plan_of, has_flip, refused_with, translated};
 
 use colour::RGBA;
 use entries::Entry;
 use job::kinds::{COMMANDS_START, FLIP};
 use job::{Dropped, Rec};
-use numbers::{DONE, NOT_TRANSLATED};
+use numbers::{DONE, Refusal};
 use steps::step;
 
 // The first `count` entries are used, and the first `dropped_count` dropped commands; all other
@@ -79,27 +79,13 @@ fn has_flip(s: &[u8]) -> bool
     ensures { result ≡ has_flip (commands s.now) }
 {
     let mut at = COMMANDS_START;
-    loop {
-        match job::next_record(s, at) {
-            Rec::Record {
-                kind,
-                start: _,
-                size: _,
-                next,
-            } => {
-                if kind == FLIP {
-                    return true;
-                }
-                at = next;
-            }
-            Rec::Bad => {
-                return false;
-            }
-            Rec::End => {
-                return false;
-            }
+    while let Rec::Record { kind, next, .. } = job::next_record(s, at) {
+        if kind == FLIP {
+            return true;
         }
+        at = next;
     }
+    false
 }
 
 // The plan of a job that is known to be good.
@@ -112,43 +98,40 @@ fn plan_of(s: &[u8]) -> Plan
     let mut p = fresh(width, paper_color);
     let mut k: u32 = 0;
     let mut at = COMMANDS_START;
-    loop {
-        match job::next_record(s, at) {
-            Rec::Record {
-                kind,
-                start,
-                size,
-                next,
-            } => {
-                let c = job::command_at(s, kind, start, size);
-                p = step(p, k, c);
-                k += 1;
-                at = next;
-            }
-            Rec::Bad => {
-                return p;
-            }
-            Rec::End => {
-                return p;
-            }
-        }
+    while let Rec::Record {
+        kind,
+        start,
+        size,
+        next,
+    } = job::next_record(s, at)
+    {
+        let c = job::command_at(s, kind, start, size);
+        p = step(p, k, c);
+        k += 1;
+        at = next;
+    }
+    p
+}
+
+// A plan of zeros.
+fn refused(why: Refusal) -> Translated
+    ensures { result ≡ refused_with (number_of why) }
+{
+    let plan = fresh(0, RGBA::BLANK);
+    Translated {
+        number: why.number(),
+        plan,
     }
 }
 
 pub fn translate(s: &[u8]) -> Translated
     ensures { result ≡ translated s.now }
 {
-    let number = job::job_refusal(s);
-    if number != DONE {
-        let plan = fresh(0, RGBA::BLANK);
-        return Translated { number, plan };
+    if let Err(why) = job::job_refusal(s) {
+        return refused(why);
     }
     if has_flip(s) {
-        let plan = fresh(0, RGBA::BLANK);
-        return Translated {
-            number: NOT_TRANSLATED,
-            plan,
-        };
+        return refused(Refusal::NotTranslated);
     }
     let plan = plan_of(s);
     Translated { number: DONE, plan }

@@ -1,12 +1,12 @@
 // What is made of a plan at each command.
 ghost use Rattle.std.specs.Prelude.{◌≡◌, ◌+◌, ◌<◌, ◌≤◌};
-ghost use Rattle.numbers.specs.Numbers.{limit};
+ghost use Rattle.numbers.specs.Numbers.{limit, number_of};
 ghost use Rattle.plan.specs.Steps.{pushed, shifted, left_out, stepped, RoomForRows, RoomForCommand};
 
 use super::Plan;
 use entries::Entry;
 use job::{Command, Dropped};
-use numbers::{DONE, larger_side};
+use numbers::Refusal;
 
 // One entry more, and a plan as high as it needs.
 fn push(plan: Plan, e: Entry) -> Plan
@@ -17,16 +17,17 @@ fn push(plan: Plan, e: Entry) -> Plan
     let n = p.count;
     p.entries[n] = e;
     p.count = n + 1;
-    p.height = larger_side(p.height, e.y + e.h);
+    p.height = p.height.max(e.y + e.h);
     p
 }
 
-fn leave_out(plan: Plan, place: u32, reason: u8) -> Plan
+fn leave_out(plan: Plan, place: u32, why: Refusal) -> Plan
     requires { plan.dropped_count < 64 }
-    ensures { result ≡ left_out plan place reason }
+    ensures { result ≡ left_out plan place (number_of why) }
 {
     let mut p = plan;
     let n = p.dropped_count;
+    let reason = why.number();
     p.dropped[n] = Dropped { place, reason };
     p.dropped_count = n + 1;
     p
@@ -39,13 +40,11 @@ fn shift(plan: Plan, m: u32) -> Plan
 {
     let mut p = plan;
     let n = p.count;
-    p.height = p.height + m;
-    let mut i = 0;
-    while i < n {
+    p.height += m;
+    for i in 0..n {
         let mut e = p.entries[i];
-        e.y = e.y + m;
+        e.y += m;
         p.entries[i] = e;
-        i += 1;
     }
     p
 }
@@ -54,8 +53,7 @@ pub(crate) fn step(p: Plan, k: u32, c: Command) -> Plan
     requires { RoomForCommand p }
     ensures { result ≡ stepped p k c }
 {
-    let why = job::command_reason(p.width, p.height, c);
-    if why != DONE {
+    if let Err(why) = job::command_reason(p.width, p.height, c) {
         return leave_out(p, k, why);
     }
     match c {
@@ -80,7 +78,7 @@ pub(crate) fn step(p: Plan, k: u32, c: Command) -> Plan
             color,
             mode,
             start,
-            size: _,
+            ..
         } => {
             let e = Entry::image(
                 p.width, x, y, w, h, stretch_x, stretch_y, color, mode, start,
@@ -88,11 +86,6 @@ pub(crate) fn step(p: Plan, k: u32, c: Command) -> Plan
             push(p, e)
         }
         Command::Margin(m) => shift(p, m),
-        Command::Flip {
-            x: _,
-            y: _,
-            w: _,
-            h: _,
-        } => p,
+        Command::Flip { .. } => p,
     }
 }

@@ -1,8 +1,8 @@
 use mathlib.Core.Path.{sym, ◌∙◌}
 use native.Mathlib.Omega.{arith}
 use Rattle.job.proofs.Found.{found}
-use Rattle.job.proofs.Walk.{good}
-use Rattle.plan.proofs.Going.{searched-start, searched-next, searched-found, searched-end, searched-bad}
+use Rattle.job.proofs.Walk.{good, left-end}
+use Rattle.plan.proofs.Going.{searched-start, searched-next, searched-found, searched-end}
 use Rattle.plan.proofs.has_flip.Goals as goal
 
 pub loop-kind-init : goal.loop-kind-init
@@ -19,8 +19,6 @@ pub loop-kind-preserved : goal.loop-kind-preserved
 loop-kind-preserved c =
     let l = c.loop-kind in searched-next _ l.at l.invariant (sym c.in-Record.is ∙ c.next_record.ensures) c.if-kind-eq-FLIP.false
 
-pub returns-in-Bad : goal.returns-in-Bad
-returns-in-Bad c = let l = c.loop-kind in searched-bad _ l.at l.invariant (sym c.in-Bad.is ∙ c.next_record.ensures)
-
-pub returns-in-End : goal.returns-in-End
-returns-in-End c = let l = c.loop-kind in searched-end _ l.at l.invariant (sym c.in-End.is ∙ c.next_record.ensures)
+pub returns : goal.returns
+returns c =
+    let l = c.loop-kind in searched-end _ l.at l.invariant (left-end _ _ l.invariant.left _ c.next_record.ensures c.in_default.not-Record)

@@ -1,8 +1,8 @@
 use mathlib.Core.Path.{sym, ◌∙◌}
 use native.Mathlib.Omega.{arith}
 use Rattle.job.proofs.Found.{found}
-use Rattle.job.proofs.Walk.{good}
-use Rattle.plan.proofs.Going.{going_start, going-bad, going_end, going-sound, going-few, going-ready, going_next}
+use Rattle.job.proofs.Walk.{good, left-end}
+use Rattle.plan.proofs.Going.{going_start, going_end, going-sound, going-few, going-ready, going_next}
 use Rattle.plan.proofs.Answers.{plan-with}
 use Rattle.plan.proofs.plan_of.Goals as goal
 
@@ -37,10 +37,6 @@ pub loop-kind-preserved : goal.loop-kind-preserved
 loop-kind-preserved c =
     let l = c.loop-kind in going_next _ l.p l.k l.at l.invariant (sym c.in-Record.is ∙ c.next_record.ensures) c.command_at-c.ensures c.step-p.ensures
 
-pub returns-in-Bad : goal.returns-in-Bad
-returns-in-Bad c =
-    let l = c.loop-kind in absurd (going-bad _ l.p l.k l.at l.invariant (sym c.in-Bad.is ∙ c.next_record.ensures))
-
-pub returns-in-End : goal.returns-in-End
-returns-in-End c =
-    let l = c.loop-kind in going_end _ l.p l.k l.at l.invariant (sym c.in-End.is ∙ c.next_record.ensures)
+pub returns : goal.returns
+returns c =
+    let l = c.loop-kind in going_end _ l.p l.k l.at l.invariant (left-end _ _ l.invariant.looked.left _ c.next_record.ensures c.in_default.not-Record)
