@@ -60,3 +60,6 @@ one_answer (Err x) (Err y) e = ap Err (one_refusal x y e)
 -- what a `?` hands on
 pub handed : {A : Type 0} (r : Result A Refusal) (why : Refusal) → IsErrAnd r (λ y. y ≡ why) → number r ≡ number_of why
 handed r why h = let p = err_from_is_err_and r h in rw (p.1, p.2)
+
+pub never : (why : Refusal) → number_of why ≡ done → ⊥
+never why e = omega (arith, refused why, e)

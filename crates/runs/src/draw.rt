@@ -18,7 +18,6 @@ use entries::{Entry, draw_entry};
 use job::kinds::COMMANDS_START;
 use job::{Command, Rec};
 use moves::move_down;
-use numbers::DONE;
 
 // Answers the height, which is at least `end`.
 fn grow(buf: &mut [u8], width: u32, height: u32, end: u32, paper: RGBA) -> u32
@@ -50,7 +49,7 @@ fn obey(buf: &mut [u8], width: u32, height: u32, paper: RGBA, c: Command, s: &[u
     ensures value { result ≡ next_height width height c }
     ensures buf_after { buf.new ≡ stepped_on s.now width paper height c buf.old }
 {
-    if job::command_reason(width, height, c) != DONE {
+    if let Err(_) = job::command_reason(width, height, c) {
         return height;
     }
     match c {
@@ -75,7 +74,7 @@ fn obey(buf: &mut [u8], width: u32, height: u32, paper: RGBA, c: Command, s: &[u
             color,
             mode,
             start,
-            size: _,
+            ..
         } => {
             let e = Entry::image(width, x, y, w, h, stretch_x, stretch_y, color, mode, start);
             place(buf, width, height, paper, e, s)
@@ -108,24 +107,15 @@ pub(crate) fn draw_all(s: &[u8], buf: &mut [u8])
     let paper = job::paper_color(s);
     let mut height: u32 = 0;
     let mut at = COMMANDS_START;
-    loop {
-        match job::next_record(s, at) {
-            Rec::Record {
-                kind,
-                start,
-                size,
-                next,
-            } => {
-                let c = job::command_at(s, kind, start, size);
-                height = obey(buf, width, height, paper, c, s);
-                at = next;
-            }
-            Rec::Bad => {
-                return;
-            }
-            Rec::End => {
-                return;
-            }
-        }
+    while let Rec::Record {
+        kind,
+        start,
+        size,
+        next,
+    } = job::next_record(s, at)
+    {
+        let c = job::command_at(s, kind, start, size);
+        height = obey(buf, width, height, paper, c, s);
+        at = next;
     }
 }

@@ -5,12 +5,13 @@ mod draw;
 mod survey;
 
 ghost use Rattle.std.specs.Prelude.{◌≡◌, length};
+ghost use Rattle.numbers.specs.Numbers.{number_of};
 ghost use Rattle.runs.specs.Run.{ran, run_on, refused_run};
 
 use colour::RGBA;
 use draw::draw_all;
 use job::Dropped;
-use numbers::DONE;
+use numbers::{DONE, Refusal};
 use refusals::room_refusal;
 use survey::look_over;
 use thermal_image::ThermalImage;
@@ -26,8 +27,8 @@ pub struct Ran {
     pub dropped: [Dropped; 64],
 }
 
-fn refused(number: u8) -> Ran
-    ensures { result ≡ refused_run number }
+fn refused(why: Refusal) -> Ran
+    ensures { result ≡ refused_run (number_of why) }
 {
     let image = ThermalImage {
         width: 0,
@@ -36,7 +37,7 @@ fn refused(number: u8) -> Ran
         paper_color: RGBA::BLANK,
     };
     Ran {
-        number,
+        number: why.number(),
         image,
         dropped_count: 0,
         dropped: [Dropped {
@@ -52,16 +53,14 @@ pub fn run(s: &[u8], buf: &mut [u8]) -> Ran
     ensures value { result ≡ ran s.now (length buf.old) }
     ensures buf_after { buf.new ≡ run_on s.now buf.old }
 {
-    let number = job::job_refusal(s);
-    if number != DONE {
-        return refused(number);
+    if let Err(why) = job::job_refusal(s) {
+        return refused(why);
     }
     let width = job::paper_width(s);
     let paper_color = job::paper_color(s);
     let v = look_over(s);
-    let lacking = room_refusal(width, v.height, buf.len());
-    if lacking != DONE {
-        return refused(lacking);
+    if let Err(why) = room_refusal(width, v.height, buf.len()) {
+        return refused(why);
     }
     draw_all(s, buf);
     let image = ThermalImage {

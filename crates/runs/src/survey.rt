@@ -1,12 +1,12 @@
 // The height and the dropped commands of a job, before anything is drawn.
 ghost use Rattle.std.specs.Prelude.{◌≡◌, [], ◌<◌};
-ghost use Rattle.numbers.specs.Numbers.{done};
+ghost use Rattle.numbers.specs.Numbers.{done, number_of};
 ghost use Rattle.job.specs.Dropping.{job_refusal, job_height, job_dropped};
 ghost use Rattle.runs.specs.Steps.{survey_with, left_out, seen};
 
 use job::kinds::COMMANDS_START;
 use job::{Command, Dropped, Rec};
-use numbers::DONE;
+use numbers::Refusal;
 
 #[derive(Clone, Copy)]
 pub(crate) struct Survey {
@@ -28,12 +28,13 @@ fn nothing() -> Survey
     }
 }
 
-fn leave_out(survey: Survey, place: u32, reason: u8) -> Survey
+fn leave_out(survey: Survey, place: u32, why: Refusal) -> Survey
     requires { survey.dropped_count < 64 }
-    ensures { result ≡ left_out survey place reason }
+    ensures { result ≡ left_out survey place (number_of why) }
 {
     let mut v = survey;
     let n = v.dropped_count;
+    let reason = why.number();
     v.dropped[n] = Dropped { place, reason };
     v.dropped_count = n + 1;
     v
@@ -43,8 +44,7 @@ fn look_at(survey: Survey, width: u32, k: u32, c: Command) -> Survey
     requires { survey.dropped_count < 64 }
     ensures { result ≡ seen width survey k c }
 {
-    let why = job::command_reason(width, survey.height, c);
-    if why != DONE {
+    if let Err(why) = job::command_reason(width, survey.height, c) {
         return leave_out(survey, k, why);
     }
     let mut v = survey;
@@ -60,25 +60,17 @@ pub(crate) fn look_over(s: &[u8]) -> Survey
     let mut v = nothing();
     let mut k: u32 = 0;
     let mut at = COMMANDS_START;
-    loop {
-        match job::next_record(s, at) {
-            Rec::Record {
-                kind,
-                start,
-                size,
-                next,
-            } => {
-                let c = job::command_at(s, kind, start, size);
-                v = look_at(v, width, k, c);
-                k += 1;
-                at = next;
-            }
-            Rec::Bad => {
-                return v;
-            }
-            Rec::End => {
-                return v;
-            }
-        }
+    while let Rec::Record {
+        kind,
+        start,
+        size,
+        next,
+    } = job::next_record(s, at)
+    {
+        let c = job::command_at(s, kind, start, size);
+        v = look_at(v, width, k, c);
+        k += 1;
+        at = next;
     }
+    v
 }

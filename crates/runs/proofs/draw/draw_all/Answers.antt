@@ -1,8 +1,8 @@
 use mathlib.Core.Path.{sym, ◌∙◌}
 use native.Mathlib.Omega.{arith}
 use Rattle.job.proofs.Found.{found}
-use Rattle.job.proofs.Walk.{good}
-use Rattle.runs.proofs.Going.{drawing-start, drawing-bad, drawing-end, drawing-sound, drawing-room, drawing-next}
+use Rattle.job.proofs.Walk.{good, left-end}
+use Rattle.runs.proofs.Going.{drawing-start, drawing-end, drawing-sound, drawing-room, drawing-next}
 use Rattle.runs.proofs.draw.draw_all.Goals as goal
 
 pub paper_width-width-requires : goal.paper_width-width-requires
@@ -29,16 +29,9 @@ pub loop-kind-preserved : goal.loop-kind-preserved
 loop-kind-preserved c =
     let l = c.loop-kind in drawing-next _ _ _ l.height l.at c.requires.1 (good _ c.requires.0) l.invariant (sym c.in-Record.is ∙ c.next_record.ensures) c.command_at-c.ensures c.paper_width-width.ensures c.paper_color-paper.ensures c.obey-height.ensures.value c.obey-height.ensures.buf_after
 
-pub shape_of-buf-in-Bad : goal.shape_of-buf-in-Bad
-shape_of-buf-in-Bad c = omega arith
+pub shape_of-buf : goal.shape_of-buf
+shape_of-buf c = omega arith
 
-pub returns-in-Bad : goal.returns-in-Bad
-returns-in-Bad c =
-    let l = c.loop-kind in absurd (drawing-bad _ _ _ l.height l.at c.requires.1 (good _ c.requires.0) l.invariant (sym c.in-Bad.is ∙ c.next_record.ensures))
-
-pub shape_of-buf-in-End : goal.shape_of-buf-in-End
-shape_of-buf-in-End c = omega arith
-
-pub returns-in-End : goal.returns-in-End
-returns-in-End c =
-    let l = c.loop-kind in drawing-end _ _ _ l.height l.at c.requires.1 (good _ c.requires.0) l.invariant (sym c.in-End.is ∙ c.next_record.ensures)
+pub returns : goal.returns
+returns c =
+    let l = c.loop-kind in drawing-end _ _ _ l.height l.at c.requires.1 (good _ c.requires.0) l.invariant (left-end _ _ l.invariant.looked.left _ c.next_record.ensures c.in_default.not-Record)

@@ -1,8 +1,8 @@
 use mathlib.Core.Path.{sym, ◌∙◌}
 use native.Mathlib.Omega.{arith}
 use Rattle.job.proofs.Found.{found}
-use Rattle.job.proofs.Walk.{good}
-use Rattle.runs.proofs.Going.{surveyed-start, surveyed-bad, surveyed-end, surveyed-sound, surveyed-few, surveyed-room, surveyed-next}
+use Rattle.job.proofs.Walk.{good, left-end}
+use Rattle.runs.proofs.Going.{surveyed-start, surveyed-end, surveyed-sound, surveyed-few, surveyed-room, surveyed-next}
 use Rattle.runs.proofs.survey.look_over.Goals as goal
 
 pub paper_width-width-requires : goal.paper_width-width-requires
@@ -30,10 +30,6 @@ pub loop-kind-preserved : goal.loop-kind-preserved
 loop-kind-preserved c =
     let l = c.loop-kind in surveyed-next _ l.v l.k l.at l.invariant (sym c.in-Record.is ∙ c.next_record.ensures) c.paper_width-width.ensures c.command_at-c.ensures c.look_at-v.ensures
 
-pub returns-in-Bad : goal.returns-in-Bad
-returns-in-Bad c =
-    let l = c.loop-kind in absurd (surveyed-bad _ l.v l.k l.at l.invariant (sym c.in-Bad.is ∙ c.next_record.ensures))
-
-pub returns-in-End : goal.returns-in-End
-returns-in-End c =
-    let l = c.loop-kind in surveyed-end _ l.v l.k l.at l.invariant (sym c.in-End.is ∙ c.next_record.ensures)
+pub returns : goal.returns
+returns c =
+    let l = c.loop-kind in surveyed-end _ l.v l.k l.at l.invariant (left-end _ _ l.invariant.looked.left _ c.next_record.ensures c.in_default.not-Record)
