@@ -1,9 +1,9 @@
 // The rows of a plan: paper, with the plan's entries applied in order. A row is worked out alone, with
 // its ink, or some rows at once.
-#![tactic(auto)]
+#![tactic(auto, using(std::proofs::lemmas::Bool::Decides::nat_tests), unfolding(crate::specs::Rows::good_sizes, crate::specs::Rows::rows_refusal, crate::specs::Rows::has_ink))]
 
 ghost use Rattle.std.specs.Prelude.{◌≡◌, true, ◌+◌, ◌*◌, ◌≤◌, length, if◌then◌else◌};
-ghost use Rattle.numbers.specs.Numbers.{limit, done};
+ghost use Rattle.numbers.specs.Numbers.{limit, done, number_of, number};
 ghost use Rattle.rows.specs.Rows.{good_sizes, good_entries, good_plan, refusal_of, rows_refusal, rows_on, has_ink, ink, used, plan_written, plan_given, plan_rows_refusal, plan_rows_written};
 ghost use Rattle.rows.specs.Steps.{band_on};
 
@@ -11,7 +11,7 @@ use colour::RGBA;
 use dots::{fill_run, get_dot};
 use entries::{draw_entry, good_entry};
 use job::kinds::MOST_COMMANDS;
-use numbers::{BAD_PLAN, DONE, LIMIT, NO_ROOM, NO_ROW, smaller_side};
+use numbers::{DONE, LIMIT, Refusal};
 use plan::Plan;
 
 // What a row answers: the number, and how many of its dots have ink.
@@ -22,16 +22,23 @@ pub struct RowAnswer {
     pub ink: u32,
 }
 
+impl RowAnswer {
+    pub fn refused(why: Refusal) -> RowAnswer
+        ensures { result ≡ record { number = number_of why; ink = 0 } }
+    {
+        RowAnswer {
+            number: why.number(),
+            ink: 0,
+        }
+    }
+}
+
 fn good_entries(plan: Plan, n: usize) -> bool
     requires { plan.count ≤ 64 }
     ensures { result ≡ good_entries plan.width plan.height n (used plan) }
 {
-    let mut i = 0;
-    while i < plan.count {
-        let e = plan.entries[i];
-        if good_entry(plan.width, plan.height, n, e) {
-            i += 1;
-        } else {
+    for i in 0..plan.count {
+        if !good_entry(plan.width, plan.height, n, plan.entries[i]) {
             return false;
         }
     }
@@ -41,45 +48,40 @@ fn good_entries(plan: Plan, n: usize) -> bool
 pub fn good_sizes(width: u32, height: u32, count: usize) -> bool
     ensures { result ≡ good_sizes width height count }
 {
-    if width < 1 {
-        return false;
-    }
-    if width > LIMIT {
-        return false;
-    }
-    if height > LIMIT {
-        return false;
-    }
-    count <= MOST_COMMANDS
+    1 <= width && width <= LIMIT && height <= LIMIT && count <= MOST_COMMANDS
 }
 
 fn good_plan(plan: Plan, n: usize) -> bool
     ensures { result ≡ good_plan plan.width plan.height n plan.count (used plan) }
 {
-    if good_sizes(plan.width, plan.height, plan.count) {
-        return good_entries(plan, n);
-    }
-    false
+    good_sizes(plan.width, plan.height, plan.count) && good_entries(plan, n)
 }
 
 // `good` says whether the plan rules are kept.
-fn rows_refusal(good: bool, width: u32, height: u32, first: u32, count: u32, room: usize) -> u8
-    ensures { result ≡ rows_refusal good width height first count room }
+fn rows_refusal(
+    good: bool,
+    width: u32,
+    height: u32,
+    first: u32,
+    count: u32,
+    room: usize,
+) -> Result<(), Refusal>
+    ensures { number result ≡ rows_refusal good width height first count room }
 {
-    if good {
-        if (height as usize) < first as usize + count as usize {
-            return NO_ROW;
-        }
-        if room / 4 < count as usize * width as usize {
-            return NO_ROOM;
-        }
-        return DONE;
+    if !good {
+        return Err(Refusal::BadPlan);
     }
-    BAD_PLAN
+    if (height as usize) < first as usize + count as usize {
+        return Err(Refusal::NoRow);
+    }
+    if room / 4 < count as usize * width as usize {
+        return Err(Refusal::NoRoom);
+    }
+    Ok(())
 }
 
-pub fn refusal_of(good: bool, width: u32, height: u32, row: u32, room: usize) -> u8
-    ensures { result ≡ refusal_of good width height row room }
+pub fn refusal_of(good: bool, width: u32, height: u32, row: u32, room: usize) -> Result<(), Refusal>
+    ensures { number result ≡ refusal_of good width height row room }
 {
     rows_refusal(good, width, height, row, 1, room)
 }
@@ -88,10 +90,7 @@ pub fn refusal_of(good: bool, width: u32, height: u32, row: u32, room: usize) ->
 fn inked(d: RGBA) -> u32
     ensures { result ≡ (if has_ink d then 1 else 0) }
 {
-    if d.r < 128 {
-        return 1;
-    }
-    0
+    (d.r < 128) as u32
 }
 
 pub fn ink_of(line: &[u8], n: usize) -> u32
@@ -99,10 +98,8 @@ pub fn ink_of(line: &[u8], n: usize) -> u32
     ensures { result ≡ ink n line.now }
 {
     let mut count = 0;
-    let mut i = 0;
-    while i < n {
+    for i in 0..n {
         count += inked(get_dot(line, i));
-        i += 1;
     }
     count
 }
@@ -119,8 +116,7 @@ fn draw_rows(plan: Plan, first: u32, count: u32, data: &[u8], buf: &mut [u8], to
         count as usize * wide,
         plan.paper_color,
     );
-    let mut i = 0;
-    while i < plan.count {
+    for i in 0..plan.count {
         let e = plan.entries[i];
         draw_entry(
             buf,
@@ -131,7 +127,6 @@ fn draw_rows(plan: Plan, first: u32, count: u32, data: &[u8], buf: &mut [u8], to
             count as usize,
             data,
         );
-        i += 1;
     }
 }
 
@@ -144,7 +139,7 @@ fn draw_bands(plan: Plan, first: u32, count: u32, data: &[u8], buf: &mut [u8])
 {
     let mut j = 0;
     while j < count {
-        let n = smaller_side(BAND, count - j);
+        let n = BAND.min(count - j);
         draw_rows(plan, first + j, n, data, buf, j);
         j += n;
     }
@@ -155,9 +150,8 @@ pub fn row(plan: Plan, row: u32, data: &[u8], line: &mut [u8]) -> RowAnswer
     ensures line_after { line.new ≡ plan_written «data».now plan row line.old }
 {
     let good = good_plan(plan, data.len());
-    let number = refusal_of(good, plan.width, plan.height, row, line.len());
-    if number != DONE {
-        return RowAnswer { number, ink: 0 };
+    if let Err(why) = refusal_of(good, plan.width, plan.height, row, line.len()) {
+        return RowAnswer::refused(why);
     }
     draw_rows(plan, row, 1, data, line, 0);
     let ink = ink_of(line, plan.width as usize);
@@ -165,15 +159,12 @@ pub fn row(plan: Plan, row: u32, data: &[u8], line: &mut [u8]) -> RowAnswer
 }
 
 // The rows from `first` on, one after the other. The plan is judged once for all of them.
-pub fn rows(plan: Plan, first: u32, count: u32, data: &[u8], buf: &mut [u8]) -> u8
-    ensures value { result ≡ plan_rows_refusal plan first count (length «data».now) (length buf.old) }
+pub fn rows(plan: Plan, first: u32, count: u32, data: &[u8], buf: &mut [u8]) -> Result<(), Refusal>
+    ensures value { number result ≡ plan_rows_refusal plan first count (length «data».now) (length buf.old) }
     ensures buf_after { buf.new ≡ plan_rows_written «data».now plan first count buf.old }
 {
     let good = good_plan(plan, data.len());
-    let number = rows_refusal(good, plan.width, plan.height, first, count, buf.len());
-    if number != DONE {
-        return number;
-    }
+    rows_refusal(good, plan.width, plan.height, first, count, buf.len())?;
     draw_bands(plan, first, count, data, buf);
-    DONE
+    Ok(())
 }

@@ -25,16 +25,16 @@ draw_rows-requires c =
     let a = c.args in
     let g = asked (goal.at.draw_rows-requires c).Start in
     let l = c.loop-j in
-    let n = c.smaller_side-n.result in
-    let few : l.j + n ≤ a.count = omega (arith, c.smaller_side-n.ensures) in
+    let n = c.min-n.result in
+    let few : l.j + n ≤ a.count = omega (arith, c.min-n.ensures) in
     (good-plan _ _ _ _ _ g.good, omega (arith, g.within, few), omega (arith, g.room, l.invariant.same, mul-le-mul_right a.plan.width few))
 
 pub loop-j-smaller : goal.loop-j-smaller
-loop-j-smaller c = omega (arith, c.smaller_side-n.ensures)
+loop-j-smaller c = omega (arith, c.min-n.ensures)
 
 pub loop-j-preserved : goal.loop-j-preserved
 loop-j-preserved c =
-    banded-next _ _ c.args.plan.paper_color _ _ _ _ _ (asked (goal.at.loop-j-preserved c).Start).good.sizes.some c.loop-j.invariant (omega (arith, c.smaller_side-n.ensures)) c.draw_rows.ensures
+    banded-next _ _ c.args.plan.paper_color _ _ _ _ _ (asked (goal.at.loop-j-preserved c).Start).good.sizes.some c.loop-j.invariant (omega (arith, c.min-n.ensures)) c.draw_rows.ensures
 
 pub shape_of-buf : goal.shape_of-buf
 shape_of-buf c = omega (arith, c.loop-j.invariant.same)

@@ -5,6 +5,3 @@ use Rattle.rows.proofs.draw_rows.Given as goal
 
 abbrev pub invariant-loop-i : goal.invariant-loop-i
 invariant-loop-i l = Applied l.data l.plan.width l.first l.top l.count l.plan.count l.plan.entries l.initial.buf l.i l.buf
-
-abbrev pub decreases-loop-i : goal.decreases-loop-i
-decreases-loop-i l = l.plan.count - l.i

@@ -7,6 +7,3 @@ use Rattle.rows.proofs.good_entries.Given as goal
 
 abbrev pub invariant-loop-i : goal.invariant-loop-i
 invariant-loop-i l = (l.i ≤ l.plan.count) × (good_entries l.plan.width l.plan.height l.n (firsts l.i l.plan.entries) ≡ true)
-
-abbrev pub decreases-loop-i : goal.decreases-loop-i
-decreases-loop-i l = l.plan.count - l.i

@@ -11,6 +11,6 @@ pub returns-then-good_sizes : goal.returns-then-good_sizes
 unfolding good_plan
 returns-then-good_sizes c = c.good_entries.ensures ∙ rw (← c.good_sizes.ensures, c.if-good_sizes.true)
 
-pub returns : goal.returns
+pub returns-else-good_sizes : goal.returns-else-good_sizes
 unfolding good_plan
-returns c = rw (← c.good_sizes.ensures, c.if-good_sizes.false)
+returns-else-good_sizes c = rw (← c.good_sizes.ensures, c.if-good_sizes.false)
