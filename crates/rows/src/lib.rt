@@ -137,11 +137,9 @@ fn draw_bands(plan: Plan, first: u32, count: u32, data: &[u8], buf: &mut [u8])
     requires { plan_rows_refusal plan first count (length «data».now) (length buf.old) ≡ done }
     ensures { buf.new ≡ rows_on «data».now plan.width plan.paper_color (used plan) first count buf.old }
 {
-    let mut j = 0;
-    while j < count {
+    for j in (0..count).step_by(BAND as usize) {
         let n = BAND.min(count - j);
         draw_rows(plan, first + j, n, data, buf, j);
-        j += n;
     }
 }
 
