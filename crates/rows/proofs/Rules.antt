@@ -4,11 +4,12 @@ use mathlib.Core.Path.{◌≡◌, refl, ap, sym, ◌∙◌}
 use mathlib.Core.Logic.{⊎_elim}
 use mathlib.Core.List.{List, [], ◌∷◌, ◌++◌}
 use mathlib.Core.Bool.{Bool, true, false, not, ◌&&◌, and-true, true≢false}
-use native.Mathlib.Nat.{one-mul, not-suc-le-zero}
+use native.Mathlib.Nat.{one-mul, not-suc-le-zero, le_refl}
+use lib.Seq.{take-suc, take-length}
 use native.Mathlib.Omega.{arith}
 use borrow.Author.Tests.{leb-true, ltb-false, le-leb, lt-leb, lt-ltb, le-ltb}
 use lib.Dec.{ltb, leb}
-use lib.ListN.{length, get_or}
+use lib.ListN.{length, get_or, take}
 use Rattle.numbers.specs.Numbers.{limit, done, no_room, bad_plan, no_row}
 use Rattle.std.specs.Prelude.{if◌then◌else◌}
 use Rattle.colour.proofs.Tests.{and_both}
@@ -151,3 +152,27 @@ good-wider W H n e h g =
     let a = and_both _ (good_kind n e) g in
     let b = and_both (sound_mode e.mode && leb (e.x + e.w) W) (leb (e.y + e.h) H) a.0 in
     rw (b.0, le-leb (e.y + e.h) limit (omega (arith, leb-true (e.y + e.h) H b.1))) a.1
+
+-- the first entries of a list that has as many
+pub firsts-take : (n : ℕ) (es : List Entry) → n ≤ length es → firsts n es ≡ take n es
+unfolding firsts
+firsts-take zero es h = refl
+firsts-take (suc n) es h = rw (firsts-take n es (omega arith)) (sym (take-suc es n no_entry h))
+
+pub firsts-whole : (es : List Entry) (i : ℕ) → i ≡ length es → firsts i es ≡ es
+firsts-whole es i e = ap (λ (k : ℕ). firsts k es) e ∙ firsts-take (length es) es (le_refl (length es)) ∙ take-length es
+
+module _ (W H n : ℕ) where
+  -- all of them
+  pub good-whole : (es : List Entry) {i : ℕ} → i ≡ length es → good_entries W H n (firsts i es) ≡ good_entries W H n es
+  good-whole es {i} e = ap (good_entries W H n) (firsts-whole es i e)
+
+  pub good-each : (es : List Entry) → good_entries W H n es ≡ true → (i : ℕ) → i < length es → good_entry W H n (get_or es i no_entry) ≡ true
+  good-each es g i h = good-at W H n es (length es) i h (good-whole es refl ∙ g)
+
+  -- entries that keep their rules keep them in a taller plan
+  pub all-wider : (es : List Entry) → H ≤ limit → good_entries W H n es ≡ true → good_entries W limit n es ≡ true
+  unfolding good_entries
+  all-wider [] h g = refl
+  all-wider (e ∷ es) h g =
+      let a = and_both (good_entry W H n e) _ g in rw (good-wider W H n e h a.0, all-wider es h a.1)

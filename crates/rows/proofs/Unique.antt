@@ -5,6 +5,8 @@ use Rattle.rows.proofs.good_sizes.Reads as good-sizes
 use Rattle.rows.proofs.RowAnswer.refused.Reads as refused
 use Rattle.rows.proofs.refusal_of.Reads as refusal-of
 use Rattle.rows.proofs.ink_of.Reads as ink-of
+use Rattle.rows.proofs.good_entries.Reads as good-entries
+use Rattle.rows.proofs.draw_rows.Reads as draw-rows
 use Rattle.rows.proofs.row.Reads as row
 use Rattle.rows.proofs.rows.Reads as rows
 
@@ -31,3 +33,9 @@ rows-content k a x y e f p q = both p.1 q.1
 
 refused-one : OneAnswer refused.Post
 refused-one k a x y e f p q = both p q
+
+good-entries-one : OneAnswer good-entries.Post
+good-entries-one k a x y e f p q = both p q
+
+draw-rows-content : OneContent draw-rows.Post (λ k e. e.1.1.1.1.1.1.0.now)
+draw-rows-content k a x y e f p q = both p q

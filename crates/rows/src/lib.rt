@@ -4,12 +4,12 @@
 
 ghost use Rattle.std.specs.Prelude.{◌≡◌, true, ◌+◌, ◌*◌, ◌≤◌, length, if◌then◌else◌};
 ghost use Rattle.numbers.specs.Numbers.{limit, done, number_of, number};
-ghost use Rattle.rows.specs.Rows.{good_sizes, good_entries, good_plan, refusal_of, rows_refusal, rows_on, has_ink, ink, used, plan_written, plan_given, plan_rows_refusal, plan_rows_written};
+ghost use Rattle.rows.specs.Rows.{good_sizes, good_entries, good_plan, refusal_of, rows_refusal, rows_on, has_ink, ink, firsts, used, plan_written, plan_given, plan_rows_refusal, plan_rows_written};
 ghost use Rattle.rows.specs.Steps.{band_on};
 
 use colour::RGBA;
 use dots::{fill_run, get_dot};
-use entries::{draw_entry, good_entry};
+use entries::{Entry, draw_entry, good_entry};
 use job::kinds::MOST_COMMANDS;
 use numbers::{DONE, LIMIT, Refusal};
 use plan::Plan;
@@ -33,28 +33,41 @@ impl RowAnswer {
     }
 }
 
-fn good_entries(plan: Plan, n: usize) -> bool
-    requires { plan.count ≤ 64 }
-    ensures { result ≡ good_entries plan.width plan.height n (used plan) }
-{
-    for i in 0..plan.count {
-        if !good_entry(plan.width, plan.height, n, plan.entries[i]) {
-            return false;
-        }
-    }
-    true
-}
-
 pub fn good_sizes(width: u32, height: u32, count: usize) -> bool
     ensures { result ≡ good_sizes width height count }
 {
     1 <= width && width <= LIMIT && height <= LIMIT && count <= MOST_COMMANDS
 }
 
+pub fn good_entries(width: u32, height: u32, n: usize, entries: &[Entry]) -> bool
+    ensures { result ≡ good_entries width height n entries.now }
+{
+    for e in entries {
+        if !good_entry(width, height, n, *e) {
+            return false;
+        }
+    }
+    true
+}
+
+// The entries that a plan uses, the first `count`.
+fn firsts(count: usize, entries: &[Entry; 64]) -> &[Entry]
+    requires { count ≤ 64 }
+    ensures { result.now ≡ firsts count entries.now }
+{
+    &entries[..count]
+}
+
 fn good_plan(plan: Plan, n: usize) -> bool
     ensures { result ≡ good_plan plan.width plan.height n plan.count (used plan) }
 {
-    good_sizes(plan.width, plan.height, plan.count) && good_entries(plan, n)
+    let Plan {
+        width,
+        height,
+        count,
+        ..
+    } = plan;
+    good_sizes(width, height, count) && good_entries(width, height, n, firsts(count, &plan.entries))
 }
 
 // `good` says whether the plan rules are kept.
@@ -104,25 +117,29 @@ pub fn ink_of(line: &[u8], n: usize) -> u32
     count
 }
 
-// `count` rows of a plan that is known to be good, from row `top` of the buffer on.
-fn draw_rows(plan: Plan, first: u32, count: u32, data: &[u8], buf: &mut [u8], top: u32)
-    requires { (good_plan plan.width plan.height (length «data».now) plan.count (used plan) ≡ true) × (first + count ≤ plan.height) × ((top + count) * plan.width * 4 ≤ length buf.old) }
-    ensures { buf.new ≡ band_on «data».now plan.width plan.paper_color (used plan) first top count buf.old }
+// `count` rows of entries that keep the plan rules, from row `top` of the buffer on.
+pub fn draw_rows(
+    width: u32,
+    paper_color: RGBA,
+    entries: &[Entry],
+    first: u32,
+    count: u32,
+    data: &[u8],
+    buf: &mut [u8],
+    top: u32,
+)
+    requires good { (1 ≤ width) × (width ≤ limit) × (good_entries width limit (length «data».now) entries.now ≡ true) }
+    requires room { (first + count ≤ limit) × ((top + count) * width * 4 ≤ length buf.old) }
+    ensures { buf.new ≡ band_on «data».now width paper_color entries.now first top count buf.old }
 {
-    let wide = plan.width as usize;
-    fill_run(
-        buf,
-        top as usize * wide,
-        count as usize * wide,
-        plan.paper_color,
-    );
-    for i in 0..plan.count {
-        let e = plan.entries[i];
+    let wide = width as usize;
+    fill_run(buf, top as usize * wide, count as usize * wide, paper_color);
+    for e in entries {
         draw_entry(
             buf,
             wide,
             top as usize,
-            e,
+            *e,
             first as usize,
             count as usize,
             data,
@@ -133,13 +150,22 @@ fn draw_rows(plan: Plan, first: u32, count: u32, data: &[u8], buf: &mut [u8], to
 // So many rows are drawn before the next, so that a row is still near when it is drawn on.
 const BAND: u32 = 64;
 
-fn draw_bands(plan: Plan, first: u32, count: u32, data: &[u8], buf: &mut [u8])
-    requires { plan_rows_refusal plan first count (length «data».now) (length buf.old) ≡ done }
-    ensures { buf.new ≡ rows_on «data».now plan.width plan.paper_color (used plan) first count buf.old }
+fn draw_bands(
+    width: u32,
+    paper_color: RGBA,
+    entries: &[Entry],
+    first: u32,
+    count: u32,
+    data: &[u8],
+    buf: &mut [u8],
+)
+    requires good { (1 ≤ width) × (width ≤ limit) × (good_entries width limit (length «data».now) entries.now ≡ true) }
+    requires room { (first + count ≤ limit) × (count * width * 4 ≤ length buf.old) }
+    ensures { buf.new ≡ rows_on «data».now width paper_color entries.now first count buf.old }
 {
     for j in (0..count).step_by(BAND as usize) {
         let n = BAND.min(count - j);
-        draw_rows(plan, first + j, n, data, buf, j);
+        draw_rows(width, paper_color, entries, first + j, n, data, buf, j);
     }
 }
 
@@ -151,7 +177,8 @@ pub fn row(plan: Plan, row: u32, data: &[u8], line: &mut [u8]) -> RowAnswer
     if let Err(why) = refusal_of(good, plan.width, plan.height, row, line.len()) {
         return RowAnswer::refused(why);
     }
-    draw_rows(plan, row, 1, data, line, 0);
+    let entries = firsts(plan.count, &plan.entries);
+    draw_rows(plan.width, plan.paper_color, entries, row, 1, data, line, 0);
     let ink = ink_of(line, plan.width as usize);
     RowAnswer { number: DONE, ink }
 }
@@ -163,6 +190,15 @@ pub fn rows(plan: Plan, first: u32, count: u32, data: &[u8], buf: &mut [u8]) -> 
 {
     let good = good_plan(plan, data.len());
     rows_refusal(good, plan.width, plan.height, first, count, buf.len())?;
-    draw_bands(plan, first, count, data, buf);
+    let entries = firsts(plan.count, &plan.entries);
+    draw_bands(
+        plan.width,
+        plan.paper_color,
+        entries,
+        first,
+        count,
+        data,
+        buf,
+    );
     Ok(())
 }

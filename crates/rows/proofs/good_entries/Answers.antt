@@ -1,18 +1,18 @@
-use mathlib.Core.Path.{◌≡◌, sym, ◌∙◌}
-use native.Mathlib.Omega.{arith}
-use Rattle.rows.proofs.Rules.{good_start, good-next, good-not}
+use Rattle.std.proofs.Common.{refl, sym, ◌∙◌, arith}
+use Rattle.rows.proofs.Rules.{good_start, good-next, good-not, good-whole}
 use Rattle.rows.proofs.good_entries.Goals as goal
 
-pub loop-i-init : goal.loop-i-init
-loop-i-init c = (omega arith, good_start _ _ _ _)
+pub loop-e-init : goal.loop-e-init
+loop-e-init c = good_start _ _ _ _
 
-pub loop-i-preserved : goal.loop-i-preserved
-loop-i-preserved c =
-    let l = c.loop-i in let a = c.args in (omega arith, good-next a.plan.width a.plan.height a.n a.plan.entries l.i l.invariant.1 (sym c.good_entry.ensures ∙ c.if-not-good_entry.false))
+pub loop-e-preserved : goal.loop-e-preserved
+loop-e-preserved c =
+    good-next _ _ _ c.args.entries.now c.loop-e.e-index c.loop-e.invariant (sym c.good_entry.ensures ∙ c.if-not-good_entry.false)
 
 pub returns-then-not-good_entry : goal.returns-then-not-good_entry
 returns-then-not-good_entry c =
-    let l = c.loop-i in let a = c.args in good-not a.plan.width a.plan.height a.n a.plan.count a.plan.entries l.i (omega arith) (sym c.good_entry.ensures ∙ c.if-not-good_entry.true)
+    good-not _ _ _ _ c.args.entries.now c.loop-e.e-index c.loop-e-test.true (sym c.good_entry.ensures ∙ c.if-not-good_entry.true)
+    ∙ good-whole _ _ _ c.args.entries.now refl
 
 pub returns : goal.returns
-returns c = let e : c.loop-i.i ≡ c.args.plan.count = omega arith in sym (rw e at c.loop-i.invariant.1)
+returns c = sym c.loop-e.invariant ∙ good-whole _ _ _ c.args.entries.now (omega arith)

@@ -1,6 +1,6 @@
 -- `rows::ink_of` meets its contract. Assumes nothing.
 use mathlib.Core.Path.{◌≡◌}
-use Prim.Native.Nat.{◌-◌, ◌≤◌}
+use Prim.Native.Nat.{◌≤◌}
 use Rattle.rows.specs.Rows.{ink}
 use Rattle.rows.proofs.ink_of.Given as goal
 

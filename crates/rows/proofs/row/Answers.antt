@@ -1,7 +1,7 @@
 use Rattle.std.proofs.Common.{sym, arith, ◌∙◌}
 use Rattle.numbers.proofs.Refusals.{never}
 use mathlib.Core.Path.{refl}
-use Rattle.rows.proofs.Rules.{row-given, good-plan}
+use Rattle.rows.proofs.Rules.{row-given, all-wider}
 use Rattle.rows.proofs.Lines.{band-one}
 use Rattle.rows.proofs.Answers.{row-refused, row_kept, row-drawn, row-answered}
 use Rattle.rows.proofs.row.Goals as goal
@@ -12,10 +12,14 @@ returns-in-Err c =
     let paper = c.args.plan.paper_color in
     record { value = c.refused.ensures ∙ row-refused _ _ _ paper _ _ _ _ e (never _); line_after = row_kept _ _ _ paper _ _ _ _ e (never _) }
 
+pub firsts-entries-requires : goal.firsts-entries-requires
+firsts-entries-requires c = (row-given _ _ _ _ _ _ _ (sym (rw c.good_plan-good.ensures at c.in_default.ensures))).good.sizes.few
+
 pub draw_rows-requires : goal.draw_rows-requires
 draw_rows-requires c =
     let g = row-given _ _ _ _ _ _ _ (sym (rw c.good_plan-good.ensures at c.in_default.ensures)) in
-    (good-plan _ _ _ _ _ g.good, omega (arith, g.below), omega (arith, g.room))
+    let z = g.good.sizes in
+    record { good = (z.some, z.wide, rw c.firsts-entries.ensures (all-wider _ _ _ _ z.tall g.good.entries)); room = (omega (arith, g.below, z.tall), omega (arith, g.room)) }
 
 pub ink_of-ink-requires : goal.ink_of-ink-requires
 ink_of-ink-requires c =
@@ -29,5 +33,5 @@ pub returns : goal.returns
 returns c =
     let e = rw c.good_plan-good.ensures at c.in_default.ensures in
     let paper = c.args.plan.paper_color in
-    let d = c.draw_rows.ensures ∙ band-one _ _ paper _ _ _ in
+    let d = rw c.firsts-entries.ensures at (c.draw_rows.ensures ∙ band-one _ _ paper _ _ _) in
     record { value = row-answered _ _ _ paper _ _ _ _ e refl d c.ink_of-ink.ensures; line_after = row-drawn _ _ _ paper _ _ _ _ e refl d }
