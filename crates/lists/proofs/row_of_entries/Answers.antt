@@ -1,18 +1,34 @@
-use Rattle.std.proofs.Common.{arith}
-use Rattle.lists.proofs.Laws.{drawn-start, may-draw, drawn-next, may-end, drawn-end}
+use Rattle.std.proofs.Common.{sym, arith, ◌∙◌}
+use Rattle.numbers.proofs.Refusals.{never}
+use mathlib.Core.Path.{refl}
+use Rattle.rows.proofs.Rules.{row-given, all-wider}
+use Rattle.rows.proofs.Lines.{band-one}
+use Rattle.rows.proofs.Answers.{row-refused, row_kept, row-drawn, row-answered}
 use Rattle.lists.proofs.row_of_entries.Goals as goal
 
-pub loop-i-init : goal.loop-i-init
-loop-i-init c = let a = c.args in drawn-start a.«data».now a.width a.height a.paper_color a.entries.now a.row a.line.now c.good_list-good.ensures c.begin_row-number.ensures (omega arith)
+pub returns-in-Err : goal.returns-in-Err
+returns-in-Err c =
+    let e = rw c.good_list-good.ensures at c.in-Err.ensures in
+    let paper = c.args.paper_color in
+    record { value = c.refused.ensures ∙ row-refused _ _ _ paper _ _ _ _ e (never _); line_after = row_kept _ _ _ paper _ _ _ _ e (never _) }
 
-pub draw_on-requires : goal.draw_on-requires
-draw_on-requires c = let a = c.args in may-draw a.«data».now a.width a.height a.paper_color a.entries.now a.row a.line.now c.loop-i.invariant c.loop-i-test.true
+pub draw_rows-requires : goal.draw_rows-requires
+draw_rows-requires c =
+    let g = row-given _ _ _ _ _ _ _ (sym (rw c.good_list-good.ensures at c.in_default.ensures)) in
+    let z = g.good.sizes in
+    record { good = (z.some, z.wide, all-wider _ _ _ _ z.tall g.good.entries); room = (omega (arith, g.below, z.tall), omega (arith, g.room)) }
 
-pub loop-i-preserved : goal.loop-i-preserved
-loop-i-preserved c = let a = c.args in drawn-next a.«data».now a.width a.height a.paper_color a.entries.now a.row a.line.now c.loop-i.invariant c.loop-i-test.true c.draw_on.ensures (omega arith)
+pub ink_of-ink-requires : goal.ink_of-ink-requires
+ink_of-ink-requires c =
+    let g = row-given _ _ _ _ _ _ _ (sym (rw c.good_list-good.ensures at c.in_default.ensures)) in
+    (omega (arith, g.room), g.good.sizes.wide)
 
-pub end_row-requires : goal.end_row-requires
-end_row-requires c = let a = c.args in may-end a.«data».now a.width a.height a.paper_color a.entries.now a.row a.line.now c.loop-i.invariant
+pub shape_of-line : goal.shape_of-line
+shape_of-line c = omega arith
 
 pub returns : goal.returns
-returns c = let a = c.args in drawn-end a.«data».now a.width a.height a.paper_color a.entries.now a.row a.line.now c.loop-i.invariant (omega arith) c.end_row.ensures
+returns c =
+    let e = rw c.good_list-good.ensures at c.in_default.ensures in
+    let paper = c.args.paper_color in
+    let d = c.draw_rows.ensures ∙ band-one _ _ paper _ _ _ in
+    record { value = row-answered _ _ _ paper _ _ _ _ e refl d c.ink_of-ink.ensures; line_after = row-drawn _ _ _ paper _ _ _ _ e refl d }
