@@ -6,7 +6,7 @@ mod order;
 mod refusal;
 
 pub use order::{larger, larger_side, smaller, smaller_side};
-pub use refusal::Refusal;
+pub use refusal::{Refusal, number};
 
 pub const DONE: u8 = 0;
 

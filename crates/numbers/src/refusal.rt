@@ -1,6 +1,8 @@
 // What an entry is refused for: document 01's table, but for its 0, which is an answer that is done.
 ghost use Rattle.std.specs.Prelude.{◌≡◌};
-ghost use Rattle.numbers.specs.Numbers.{number_of};
+ghost use Rattle.numbers.specs.Numbers.{number_of, number};
+
+use super::DONE;
 
 #[derive(Clone, Copy, Debug, PartialEq, Eq)]
 pub enum Refusal {
@@ -27,5 +29,15 @@ impl Refusal {
         ensures { result ≡ number_of self }
     {
         self as u8
+    }
+}
+
+// The number of an answer that says nothing but whether it is done.
+pub fn number(answer: Result<(), Refusal>) -> u8
+    ensures { result ≡ number answer }
+{
+    match answer {
+        Ok(()) => DONE,
+        Err(why) => why.number(),
     }
 }

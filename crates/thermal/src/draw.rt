@@ -5,6 +5,7 @@ ghost use Rattle.places.specs.Places.{border_refusal};
 ghost use Rattle.drawing.specs.Drawing.{put, put_on, rect, rect_on, image_put, image_on, flip, flip_on, border_on};
 
 use colour::RGBA;
+use numbers::number;
 use thermal_image::{Answer, ThermalImage};
 
 #[unsafe(no_mangle)]
@@ -94,5 +95,5 @@ pub extern "C" fn thermal_draw_border(w: u32, h: u32, color: RGBA, buf: &mut [u8
     ensures value { result ≡ border_refusal w h (length buf.old) }
     ensures buf_after { buf.new ≡ border_on w h color buf.old }
 {
-    drawing::draw_border(w, h, color, buf)
+    number(drawing::draw_border(w, h, color, buf))
 }

@@ -5,6 +5,7 @@ ghost use Rattle.plan.specs.Plan.{translated};
 ghost use Rattle.rows.specs.Rows.{plan_written, plan_given, plan_rows_refusal, plan_rows_written};
 ghost use Rattle.runs.specs.Run.{ran, run_on};
 
+use numbers::number;
 use plan::{Plan, Translated};
 use rows::RowAnswer;
 use runs::Ran;
@@ -43,5 +44,5 @@ pub extern "C" fn thermal_rows(
     ensures value { result ≡ plan_rows_refusal plan first count (length «data».now) (length buf.old) }
     ensures buf_after { buf.new ≡ plan_rows_written «data».now plan first count buf.old }
 {
-    rows::rows(plan, first, count, data, buf)
+    number(rows::rows(plan, first, count, data, buf))
 }
