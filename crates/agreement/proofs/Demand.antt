@@ -3,7 +3,9 @@ use Prim.Native.Nat.{ℕ, ◌*◌, ◌≤◌}
 use mathlib.Core.Path.{◌≡◌, refl, ◌∙◌}
 use mathlib.Core.List.{List}
 use lib.ListN.{length}
-use Rattle.numbers.specs.Numbers.{done}
+use Rattle.std.proofs.Common.{Result}
+use Rattle.numbers.specs.declared.refusal.Refusal.{Refusal}
+use Rattle.numbers.specs.Numbers.{done, number}
 use Rattle.job.specs.Commands.{paper_width}
 use Rattle.job.specs.Dropping.{job_height, job_dropped}
 use Rattle.plan.specs.declared.Plan.{Plan}
@@ -27,8 +29,8 @@ translate-is s t c = rw (← c.given) c.kept
 row_is : (p : Plan) (j : ℕ) (s l : List ℕ) (a : RowAnswer) (m : List ℕ) → Row p j s l a m → (a ≡ plan_given s p j l) × (m ≡ plan_written s p j l)
 row_is p j s l a m c = rw (← c.given.0, ← c.given.1, ← c.given.2, ← c.given.3, ← c.left) c.kept
 
-rows_are : (p : Plan) (first n : ℕ) (s l : List ℕ) (a : ℕ) (m : List ℕ) → Rows p first n s l a m
-    → (a ≡ plan_rows_refusal p first n (length s) (length l)) × (m ≡ plan_rows_written s p first n l)
+rows_are : (p : Plan) (first n : ℕ) (s l : List ℕ) (a : Result (Unit {0}) Refusal) (m : List ℕ) → Rows p first n s l a m
+    → (number a ≡ plan_rows_refusal p first n (length s) (length l)) × (m ≡ plan_rows_written s p first n l)
 rows_are p first n s l a m c = rw (← c.given.0, ← c.given.1, ← c.given.2, ← c.given.3, ← c.given.4, ← c.left) c.kept
 
 -- ---- the run's answer and the translation's, of a job that can be planned

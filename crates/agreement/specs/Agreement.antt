@@ -1,6 +1,7 @@
 -- Demand 3: running a job and planning it agree. What is claimed, about any answers that the contracts of `run`, `translate`, `row` and `rows` allow.
-use Rattle.std.specs.Prelude.{ℕ, ◌+◌, ◌*◌, ◌≤◌, ◌<◌, ◌≡◌, List, true, false, length, drop}
-use Rattle.numbers.specs.Numbers.{done}
+use Rattle.std.specs.Prelude.{ℕ, ◌+◌, ◌*◌, ◌≤◌, ◌<◌, ◌≡◌, List, Result, true, false, length, drop}
+use Rattle.numbers.specs.declared.refusal.Refusal.{Refusal}
+use Rattle.numbers.specs.Numbers.{done, number}
 use Rattle.dots.specs.Dots.{dot_at}
 use Rattle.job.specs.Commands.{sound, commands}
 use Rattle.job.specs.Dropping.{most_commands}
@@ -41,7 +42,7 @@ Row plan j s before r after =
     Call row.Post (λ k a. (a.0 ≡ plan) × (a.1.0 ≡ j) × (a.1.1.0.now ≡ s) × (a.1.1.1.0.now ≡ before)) (λ k e. e.1.1.1.0.now ≡ after) r
 
 -- let r = rows(plan, first, n, s, buf), with the bytes of buf before and after
-abbrev pub Rows : Plan → ℕ → ℕ → List ℕ → List ℕ → ℕ → List ℕ → Type 0
+abbrev pub Rows : Plan → ℕ → ℕ → List ℕ → List ℕ → Result (Unit {0}) Refusal → List ℕ → Type 0
 Rows plan first n s before r after =
     Call rows.Post
     (λ k a. (a.0 ≡ plan) × (a.1.0 ≡ first) × (a.1.1.0 ≡ n) × (a.1.1.1.0.now ≡ s) × (a.1.1.1.1.0.now ≡ before))
@@ -83,8 +84,8 @@ pub record Same (s : List ℕ) (r : Ran) (canvas : List ℕ) (t : Translated) : 
   pub alone : (j : ℕ) (before line : List ℕ) (a : RowAnswer) → j < t.plan.height → 4 * t.plan.width ≤ length before
       → Row t.plan j s before a line → SameRow t.plan.width j canvas a line
   -- some rows at once
-  pub at_once : (first n : ℕ) (before lines : List ℕ) (a : ℕ) → first + n ≤ t.plan.height → 4 * (n * t.plan.width) ≤ length before
-      → Rows t.plan first n s before a lines → SameRows t.plan.width first n canvas a lines
+  pub at_once : (first n : ℕ) (before lines : List ℕ) (a : Result (Unit {0}) Refusal) → first + n ≤ t.plan.height → 4 * (n * t.plan.width) ≤ length before
+      → Rows t.plan first n s before a lines → SameRows t.plan.width first n canvas (number a) lines
 
 -- for every such job and every canvas buffer with room for the plan's height
 abbrev pub Demand3 : Type 0

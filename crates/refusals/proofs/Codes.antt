@@ -6,7 +6,7 @@ use mathlib.Core.Bool.{Bool, true, false, not, ◌&&◌, ◌||◌}
 use Prim.Native.Nat.{ℕ, ◌+◌, ◌*◌, ◌≤◌, ◌<◌, max}
 use native.Mathlib.Omega.{arith}
 use lib.Dec.{ltb, leb, eqb}
-use borrow.Author.Tests.{ltb-false, leb-false, eqb-true, eqb-false, lt-leb, eq-eqb, ne_eqb}
+use borrow.Author.Tests.{ltb-false, leb-false, eqb-true, eqb-false, lt-leb, eq-eqb, ne_eqb, le-ltb}
 use Rattle.numbers.specs.declared.refusal.Refusal.{Refusal}
 use Rattle.numbers.specs.Numbers.{limit, done, number_of, number}
 use Rattle.numbers.proofs.Refusals.{refused, handed}
@@ -103,6 +103,11 @@ empty-done w h e =
 pub rows-some : (W H : ℕ) → 0 < W → rows_of W H ≡ H
 unfolding rows_of
 rows-some W H h = rw (ne_eqb W 0 (λ e. omega arith))
+
+-- a canvas with a width, within the limit and with room
+pub canvas-none : (W H n : ℕ) → 0 < W → W ≤ limit → H ≤ limit → 4 * (W * H) ≤ n → canvas_refusal W H n ≡ done
+unfolding canvas_refusal
+canvas-none W H n some a b r = rw (le-ltb _ _ a, le-ltb _ _ b, ne_eqb W 0 (λ e. omega arith), le-ltb n (4 * (W * H)) r)
 
 pub record Sound (W H n : ℕ) : Type 0 where
   pub width : W ≤ limit
