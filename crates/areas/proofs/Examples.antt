@@ -1,5 +1,5 @@
 -- 01's border at its edges: a dot is blended once for each edge that it lies on. Assumes nothing.
-use mathlib.Core.Path.{◌≡◌, refl}
+use Rattle.std.proofs.Common.{◌≡◌, refl}
 use Rattle.areas.specs.Areas.{edges}
 
 only-dot : edges 1 1 0 0 ≡ 4

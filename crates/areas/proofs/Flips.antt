@@ -1,46 +1,15 @@
--- A piece of two rows flipped, and the two loops of a flip: over the pieces of two rows, and over pairs of rows. Each loop has a start, a next and an
--- end. Assumes nothing.
-use mathlib.Core.Path.{◌≡◌, refl, sym, ap, ◌∙◌}
-use mathlib.Core.Logic.{◌⊎◌, inl, inr}
-use mathlib.Core.List.{List}
-use mathlib.Core.Bool.{Bool, true, false, ◌&&◌, ◌||◌, and-false, or-true, or_comm}
-use Prim.Native.Nat.{ℕ, ◌+◌, ◌-◌, ◌*◌, ◌/◌, ◌%◌, ◌≤◌, ◌<◌}
-use native.Mathlib.Nat.{mul-le-mul_right, add-zero, add-mul}
-use native.Mathlib.Omega.{arith}
-use lib.ListN.{length}
-use Rattle.std.specs.Prelude.{if◌then◌else◌}
+-- A piece of two rows flipped, the pieces of two rows, and the pairs of rows of an area. Assumes nothing.
+use Rattle.std.proofs.Common.{◌≡◌, refl, sym, ap, ◌∙◌, ◌⊎◌, inl, inr, List, Bool, true, false, ◌&&◌, ◌||◌, ℕ, ◌+◌, ◌-◌, ◌*◌, ◌/◌, ◌%◌, ◌≤◌, ◌<◌, mul-le-mul_right, add-zero, add-mul, arith, length, if◌then◌else◌}
+use mathlib.Core.Bool.{and-false, or-true, or_comm}
 use Rattle.colour.specs.declared.RGBA.{RGBA}
 use Rattle.colour.specs.Colour.{blended}
 use Rattle.dots.specs.Dots.{dot_at, change, within}
-use Rattle.dots.proofs.Laws.{
-  below,
-  length-change,
-  change-picked,
-  change-kept,
-  change-none,
-  change-same,
-  change-where,
-  change-by,
-  change-then,
-  change-more,
-  Place,
-  before,
-  inside,
-  past,
-  place,
-  within-yes,
-  within_low,
-  within-high,
-  within-true,
-  within-then,
-  drawn-blended,
-}
+use Rattle.dots.proofs.Laws.{below, change-picked, change-kept, change-none, change-same, change-where, change-by, change-then, change-more, Place, before, inside, past, place, within-yes, within_low, within-high, within-true, within-then, drawn-blended}
 use Rattle.dots.proofs.Blocks.{in_row}
 use Rattle.pixels.specs.Pixels.{pixels_on}
 use Rattle.areas.specs.Areas.{Fits, in_area, area_on, flipped_on}
 use Rattle.areas.specs.Steps.{pair_on}
-use Rattle.areas.proofs.Laws.{at-column, run_row}
-use Rattle.areas.proofs.Rows.{Row, row_of}
+use Rattle.areas.proofs.Laws.{at-column, run_row, row-room}
 
 -- ---- runs
 
@@ -168,20 +137,17 @@ module _ (top bottom w : ℕ) (l : List ℕ) where
   abbrev done : ℕ → ℕ → Bool
   done i k = within top (top + i) k || within bottom (bottom + i) k
 
-  pub record Pair (i : ℕ) (b : List ℕ) : Type 0 where
-    pub upto : i ≤ w
-    pub same : length b ≡ length l
-    pub sofar : b ≡ change (done i) pair_dot l
+  abbrev pub Pair : ℕ → List ℕ → Type 0
+  Pair i b = b ≡ change (done i) pair_dot l
 
   pub pair-start : Pair 0 l
-  pair-start = record { upto = omega arith; same = refl; sofar = change-none (done 0) pair_dot l (λ k. rw (add-zero top, add-zero bottom, no_run top k, no_run bottom k)) }
+  pair-start = change-none (done 0) pair_dot l (λ k. rw (add-zero top, add-zero bottom, no_run top k, no_run bottom k))
 
   -- the piece of n dots from dot i of each on
-  pub pair-next : (top ≡ bottom) ⊎ (top + w ≤ bottom) → top ≤ bottom → {i : ℕ} (n : ℕ) {b m : List ℕ} → Pair i b → i + n ≤ w
+  pub pair-next : (top ≡ bottom) ⊎ (top + w ≤ bottom) → top ≤ bottom → (i n : ℕ) {b m : List ℕ} → Pair i b → i + n ≤ w
       → m ≡ pair_on (top + i) (bottom + i) n b → Pair (i + n) m
   unfolding pair_on
-  pair-next apart order {i} n {b} {m} p h em =
-      record { upto = h; same = ap length em ∙ length-change _ _ b ∙ p.same; sofar = next }
+  pair-next apart order i n {b} {m} eb h em = next
     where
       picked : ℕ → Bool
       picked k = within (top + i) (top + i + n) k || within (bottom + i) (bottom + i + n) k
@@ -192,7 +158,7 @@ module _ (top bottom w : ℕ) (l : List ℕ) where
       undone k u (inr v) = rw (within-high top (top + i) k u, within-high bottom (bottom + i) k v)
 
       old : (k : ℕ) → top + i ≤ k → (k < bottom) ⊎ (bottom + i ≤ k) → dot_at b k ≡ dot_at l k
-      old k u v = ap (λ (x : List ℕ). dot_at x k) p.sofar ∙ change-kept (done i) pair_dot l k (undone k u v)
+      old k u v = ap (λ (x : List ℕ). dot_at x k) eb ∙ change-kept (done i) pair_dot l k (undone k u v)
 
       here : (k : ℕ) → Place (top + i) (top + i + n) k → ((top + i ≤ k) × (k < top + i + n)) ⊎ ((bottom + i ≤ k) × (k < bottom + i + n)) → (top ≡ bottom) ⊎ (top + w ≤ bottom)
           → (d : RGBA) → blended (dot_at b (if within (top + i) (top + i + n) k then k + (bottom + i - (top + i)) else k - (bottom + i - (top + i)))) d ≡ pair_dot k d
@@ -218,138 +184,121 @@ module _ (top bottom w : ℕ) (l : List ℕ) where
       next =
           em
           ∙ change-by picked _ pair_dot b (λ k e. here k (place (top + i) (top + i + n) k) (side (top + i) (bottom + i) n k e) apart _)
-          ∙ rw p.sofar
+          ∙ rw eb
           (change-more (done i) picked (done (i + n)) pair_dot l
           (λ k. rw (run_more top i n k, run_more bottom i n k) (regroup (within top (top + i) k) (within bottom (bottom + i) k) _ _))
           (λ k e. fresh k (side (top + i) (bottom + i) n k e) apart))
 
-  pub pair_end : {i : ℕ} {b : List ℕ} → Pair i b → i ≡ w → b ≡ pair_on top bottom w l
+  pub pair_end : (i : ℕ) {b : List ℕ} → Pair i b → i ≡ w → b ≡ pair_on top bottom w l
   unfolding pair_on
-  pair_end p e = rw e at p.sofar
+  pair_end i eb e = rw e at eb
 
--- ---- pairs of rows: those above `top` and those from `bottom` on are done in b
+-- ---- pairs of rows: the first j and the last j are done in b
 
 module _ (W x y w h : ℕ) (l : List ℕ) where
   abbrev flip_dot : ℕ → RGBA → RGBA
   flip_dot k d = blended (dot_at l ((y + (h - 1 - (k / W - y))) * W + (x + (k % W - x)))) d
 
-  abbrev turned : ℕ → ℕ → ℕ → Bool
-  turned top bottom k = within x (x + w) (k % W) && (within y top (k / W) || within bottom (y + h) (k / W))
+  abbrev turned : ℕ → ℕ → Bool
+  turned j k = within x (x + w) (k % W) && (within y (y + j) (k / W) || within (y + (h - j)) (y + h) (k / W))
 
-  pub record Flip (top bottom : ℕ) (b : List ℕ) : Type 0 where
-    pub low : y ≤ top
-    pub high : y ≤ bottom
-    pub middle : top + bottom ≡ y + (y + h)
-    pub same : length b ≡ length l
-    pub sofar : b ≡ change (turned top bottom) flip_dot l
+  abbrev pub Flip : ℕ → List ℕ → Type 0
+  Flip j b = b ≡ change (turned j) flip_dot l
 
-  pub flip-start : Flip y (y + h) l
+  pub flip-start : Flip 0 l
   flip-start =
-      record {
-        low = omega arith;
-        high = omega arith;
-        middle = refl;
-        same = refl;
-        sofar = change-none (turned y (y + h)) flip_dot l (λ k. rw (no_run y (k / W), no_run (y + h) (k / W)) (and-false (within x (x + w) (k % W))));
-      }
+      let e : h - 0 ≡ h = omega arith in
+      change-none (turned 0) flip_dot l (λ k. rw (add-zero y, e, no_run y (k / W), no_run (y + h) (k / W)) (and-false (within x (x + w) (k % W))))
 
   -- the next two rows, `top` and `last`, lie in a buffer of n bytes, and are one or apart
   pub record Ready (top last n : ℕ) : Type 0 where
-    pub first : Row W x w top n
-    pub second : Row W x w last n
+    pub inside : (last * W + x + w) * 4 ≤ n
     pub apart : (top * W + x ≡ last * W + x) ⊎ (top * W + x + w ≤ last * W + x)
     pub order : top * W + x ≤ last * W + x
 
-  ready : Fits W x y w h (length l) → {top last : ℕ} {b : List ℕ} → Flip top (last + 1) b → top ≤ last → Ready top last (length b)
-  ready fits {top} {last} r t =
-      rw r.same
-      record {
-        first = row_of fits top (omega (arith, r.high, r.middle));
-        second = row_of fits last (omega (arith, r.low, r.middle));
-        apart = by (below top last);
-        order = omega (arith, mul-le-mul_right {m = top} {n = last} W t);
-      }
-    where
-      by : (top < last) ⊎ (last ≤ top) → (top * W + x ≡ last * W + x) ⊎ (top * W + x + w ≤ last * W + x)
-      by (inl u) = inr (omega (arith, fits.across, add-mul top 1 W, mul-le-mul_right {m = top + 1} {n = last} W (omega arith)))
-      by (inr u) = let e : top ≡ last = omega arith in inl (rw e)
+  module _ (fits : Fits W x y w h (length l)) (j : ℕ) (t : j + j < h) where
+    abbrev top : ℕ
+    top = y + j
 
-  module _ (fits : Fits W x y w h (length l)) {top last : ℕ} {b : List ℕ} (r : Flip top (last + 1) b) (t : top ≤ last) where
+    abbrev last : ℕ
+    last = y + (h - 1 - j)
+
     order : top * W ≤ last * W
-    order = mul-le-mul_right W t
+    order = mul-le-mul_right W (omega arith)
+
+    pub flip-room : Ready top last (length l)
+    flip-room =
+        record {
+          inside = row-room fits last (omega arith);
+          apart = by (below top last);
+          order = omega (arith, order);
+        }
+      where
+        by : (top < last) ⊎ (last ≤ top) → (top * W + x ≡ last * W + x) ⊎ (top * W + x + w ≤ last * W + x)
+        by (inl u) = inr (omega (arith, fits.across, add-mul top 1 W, mul-le-mul_right {m = top + 1} {n = last} W (omega arith)))
+        by (inr u) = let e : top ≡ last = omega arith in inl (rw e)
 
     -- a dot of a row that is not done yet
-    off : (k row : ℕ) → k / W ≡ row → top ≤ row → row ≤ last → turned top (last + 1) k ≡ false
+    off : (k row : ℕ) → k / W ≡ row → top ≤ row → row ≤ last → turned j k ≡ false
     off k row e u v =
-        rw (e, within-high y top row u, within_low (last + 1) (y + h) row (omega arith)) (and-false (within x (x + w) (k % W)))
+        rw (e, within-high y top row u, within_low (y + (h - j)) (y + h) row (omega arith)) (and-false (within x (x + w) (k % W)))
 
-    -- a dot k of a row, and its mirror n
-    mirror : (row row' k n : ℕ) → row * W + x ≤ k → k < row * W + x + w → top ≤ row' → row' ≤ last → row + row' + 1 ≡ y + (y + h) → y ≤ row
-        → n ≡ row' * W + (k - row * W) → (d : RGBA) → blended (dot_at b n) d ≡ flip_dot k d
-    mirror row row' k n u v p q s a e d =
-        let i = k - row * W in
-        let k-row = in_row row W k (omega arith) (omega (arith, fits.across)) in
-        let n-row = at-column W i row' (omega (arith, fits.across)) in
-        let old : dot_at b (row' * W + i) ≡ dot_at l (row' * W + i) =
-        ap (λ (z : List ℕ). dot_at z (row' * W + i)) r.sofar ∙ change-kept (turned top (last + 1)) flip_dot l (row' * W + i) (off (row' * W + i) row' n-row.0 p q) in
-        let ej : y + (h - 1 - (row - y)) ≡ row' = omega arith in
-        let ei : x + (k - row * W - x) ≡ k - row * W = omega arith in
-        rw (e, k-row.0, k-row.1, ej, ei) (ap (λ (c : RGBA). blended c d) old)
+    module _ {b : List ℕ} (eb : Flip j b) where
+      -- a dot k of a row, and its mirror n
+      mirror : (row row' k n : ℕ) → row * W + x ≤ k → k < row * W + x + w → top ≤ row' → row' ≤ last → row + row' + 1 ≡ y + (y + h) → y ≤ row
+          → n ≡ row' * W + (k - row * W) → (d : RGBA) → blended (dot_at b n) d ≡ flip_dot k d
+      mirror row row' k n u v p q s a e d =
+          let i = k - row * W in
+          let k-row = in_row row W k (omega arith) (omega (arith, fits.across)) in
+          let n-row = at-column W i row' (omega (arith, fits.across)) in
+          let old : dot_at b (row' * W + i) ≡ dot_at l (row' * W + i) =
+          ap (λ (z : List ℕ). dot_at z (row' * W + i)) eb ∙ change-kept (turned j) flip_dot l (row' * W + i) (off (row' * W + i) row' n-row.0 p q) in
+          let ej : y + (h - 1 - (row - y)) ≡ row' = omega arith in
+          let ei : x + (k - row * W - x) ≡ k - row * W = omega arith in
+          rw (e, k-row.0, k-row.1, ej, ei) (ap (λ (c : RGBA). blended c d) old)
 
-    next : {m : List ℕ} → m ≡ pair_on (top * W + x) (last * W + x) w b → Flip (top + 1) last m
-    unfolding pair_on in_area
-    next {m} em =
-        record { low = omega (arith, r.low); high = omega (arith, r.low); middle = omega (arith, r.middle); same = ap length em ∙ length-change _ _ b ∙ r.same; sofar = done_more }
-      where
-        T : ℕ
-        T = top * W + x
+      pub flip-next : {m : List ℕ} → m ≡ pair_on (top * W + x) (last * W + x) w b → Flip (j + 1) m
+      unfolding pair_on in_area
+      flip-next em =
+          em
+          ∙ change-by picked _ flip_dot b (λ k e. here k (place T (T + w) k) (side T L w k e) _)
+          ∙ rw eb (change-more (turned j) picked (turned (j + 1)) flip_dot l more (λ k e. apart k (side T L w k e)))
+        where
+          T : ℕ
+          T = top * W + x
 
-        L : ℕ
-        L = last * W + x
+          L : ℕ
+          L = last * W + x
 
-        picked : ℕ → Bool
-        picked k = within T (T + w) k || within L (L + w) k
+          picked : ℕ → Bool
+          picked k = within T (T + w) k || within L (L + w) k
 
-        done_more : m ≡ change (turned (top + 1) last) flip_dot l
-        done_more =
-            em
-            ∙ change-by picked _ flip_dot b (λ k e. here k (place T (T + w) k) (side T L w k e) _)
-            ∙ rw r.sofar (change-more (turned top (last + 1)) picked (turned (top + 1) last) flip_dot l more (λ k e. apart k (side T L w k e)))
-          where
-            here : (k : ℕ) → Place T (T + w) k → ((T ≤ k) × (k < T + w)) ⊎ ((L ≤ k) × (k < L + w))
-                → (d : RGBA) → blended (dot_at b (if within T (T + w) k then k + (L - T) else k - (L - T))) d ≡ flip_dot k d
-            here k (inside u v) s d =
-                mirror top last k _ u v t (omega arith) (omega (arith, r.middle)) r.low (rw (within-yes T (T + w) k u v) (omega (arith, order))) d
-            here k (before u) (inl s) d = absurd (omega arith)
-            here k (before u) (inr s) d = absurd (omega (arith, order))
-            here k (past u v) (inl s) d = absurd (omega arith)
-            here k (past u v) (inr s) d =
-                mirror last top k _ s.0 s.1 (omega arith) t (omega (arith, r.middle)) (omega (arith, r.low)) (rw (within-high T (T + w) k v) (omega (arith, order))) d
+          here : (k : ℕ) → Place T (T + w) k → ((T ≤ k) × (k < T + w)) ⊎ ((L ≤ k) × (k < L + w))
+              → (d : RGBA) → blended (dot_at b (if within T (T + w) k then k + (L - T) else k - (L - T))) d ≡ flip_dot k d
+          here k (inside u v) s d =
+              mirror top last k _ u v (omega arith) (omega arith) (omega arith) (omega arith) (rw (within-yes T (T + w) k u v) (omega (arith, order))) d
+          here k (before u) (inl s) d = absurd (omega arith)
+          here k (before u) (inr s) d = absurd (omega (arith, order))
+          here k (past u v) (inl s) d = absurd (omega arith)
+          here k (past u v) (inr s) d =
+              mirror last top k _ s.0 s.1 (omega arith) (omega arith) (omega arith) (omega arith) (rw (within-high T (T + w) k v) (omega (arith, order))) d
 
-            more : (k : ℕ) → turned (top + 1) last k ≡ (turned top (last + 1) k || picked k)
-            more k =
-                rw
-                (within-then y top (top + 1) (k / W) r.low (omega arith), within-then last (last + 1) (y + h) (k / W) (omega arith) (omega (arith, r.low, r.middle)), run_row W x w top k fits.some fits.across, run_row W x w last k fits.some fits.across)
-                (spread (within x (x + w) (k % W)) (within y top (k / W)) _ _ _)
+          more : (k : ℕ) → turned (j + 1) k ≡ (turned j k || picked k)
+          more k =
+              let et : y + (j + 1) ≡ top + 1 = omega arith in
+              let el : y + (h - (j + 1)) ≡ last = omega arith in
+              let en : y + (h - j) ≡ last + 1 = omega arith in
+              rw
+              (et, el, en, within-then y top (top + 1) (k / W) (omega arith) (omega arith), within-then last (last + 1) (y + h) (k / W) (omega arith) (omega arith), run_row W x w top k fits.some fits.across, run_row W x w last k fits.some fits.across)
+              (spread (within x (x + w) (k % W)) (within y top (k / W)) _ _ _)
 
-            apart : (k : ℕ) → ((T ≤ k) × (k < T + w)) ⊎ ((L ≤ k) × (k < L + w)) → turned top (last + 1) k ≡ false
-            apart k (inl s) = off k top (in_row top W k (omega arith) (omega (arith, fits.across))).0 (omega arith) t
-            apart k (inr s) = off k last (in_row last W k (omega arith) (omega (arith, fits.across))).0 t (omega arith)
+          apart : (k : ℕ) → ((T ≤ k) × (k < T + w)) ⊎ ((L ≤ k) × (k < L + w)) → turned j k ≡ false
+          apart k (inl s) = off k top (in_row top W k (omega arith) (omega (arith, fits.across))).0 (omega arith) (omega arith)
+          apart k (inr s) = off k last (in_row last W k (omega arith) (omega (arith, fits.across))).0 (omega arith) (omega arith)
 
-  -- where `bottom` is not yet the last row, but the one below it
-  below_last : {top bottom : ℕ} {b : List ℕ} → Flip top bottom b → top < bottom → Flip top (bottom - 1 + 1) b
-  below_last {top} {bottom} r t = let e : bottom - 1 + 1 ≡ bottom = omega arith in rw e r
-
-  pub flip-room : Fits W x y w h (length l) → {top bottom : ℕ} {b : List ℕ} → Flip top bottom b → top < bottom → Ready top (bottom - 1) (length b)
-  flip-room fits r t = ready fits (below_last r t) (omega arith)
-
-  pub flip-next : Fits W x y w h (length l) → {top bottom : ℕ} {b m : List ℕ} → Flip top bottom b → top < bottom
-      → m ≡ pair_on (top * W + x) ((bottom - 1) * W + x) w b → Flip (top + 1) (bottom - 1) m
-  flip-next fits r t em = next fits (below_last r t) (omega arith) em
-
-  pub flip-end : {top bottom : ℕ} {b : List ℕ} → Flip top bottom b → bottom ≤ top → b ≡ flipped_on W x y w h l
+  pub flip-end : (j : ℕ) {b : List ℕ} → j ≡ (h + 1) / 2 → Flip j b → b ≡ flipped_on W x y w h l
   unfolding flipped_on area_on in_area
-  flip-end {top} {bottom} r t =
-      r.sofar
+  flip-end j e eb =
+      eb
       ∙ change-where _ _ flip_dot l
-      (λ k. ap (λ (s : Bool). within x (x + w) (k % W) && s) (run-cover y bottom top (y + h) (k / W) r.high t (omega (arith, r.high, r.middle))))
+      (λ k. ap (λ (s : Bool). within x (x + w) (k % W) && s) (run-cover y (y + (h - j)) (y + j) (y + h) (k / W) (omega arith) (omega arith) (omega arith)))

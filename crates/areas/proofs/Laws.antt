@@ -1,13 +1,6 @@
 -- Laws of areas. Assumes nothing.
-use mathlib.Core.Path.{◌≡◌, refl, sym, ap, ◌∙◌}
-use mathlib.Core.Logic.{◌⊎◌, inl, inr}
-use mathlib.Core.List.{List}
-use mathlib.Core.Bool.{Bool, true, false, ◌&&◌, ◌||◌, and-true, and-false, and-or_distrib_left}
-use Prim.Native.Nat.{ℕ, ◌+◌, ◌-◌, ◌*◌, ◌/◌, ◌%◌, ◌≤◌, ◌<◌}
-use native.Mathlib.Nat.{div-lt_iff_lt-mul, le-div_iff_mul-le, div-add-mod', le-mul_of_pos_right, mul-le-mul, mul-le-mul_right, mul_comm, add-mul}
-use native.Mathlib.Omega.{arith}
-use lib.ListN.{length, get_or}
-use Rattle.std.specs.Prelude.{if◌then◌else◌}
+use Rattle.std.proofs.Common.{◌≡◌, refl, sym, ap, ◌∙◌, ◌⊎◌, inl, inr, List, Bool, true, false, ◌&&◌, ◌||◌, ℕ, ◌+◌, ◌-◌, ◌*◌, ◌/◌, ◌%◌, ◌≤◌, ◌<◌, div-lt_iff_lt-mul, le-div_iff_mul-le, div-add-mod', mul-le-mul_right, mul_comm, add-mul, arith, length, get_or, if◌then◌else◌}
+use mathlib.Core.Bool.{and-true, and-false, and-or_distrib_left}
 use Rattle.colour.specs.declared.RGBA.{RGBA}
 use Rattle.colour.proofs.Tests.{and_both}
 use Rattle.dots.specs.Dots.{dot_at, change, within, chan}
@@ -93,14 +86,11 @@ pub area-fits : (H : ℕ) {W x y w h n : ℕ} → 0 < W → x + w ≤ W → y + 
 area-fits H {W} {x} {y} {w} {h} p a d room =
     record { some = p; across = a; down = omega (arith, mul_comm W H, mul-le-mul_right {m = y + h} {n = H} W d) }
 
--- an area that fits has no more rows above its end, and no more dots, than the buffer has
-pub area-height : {W x y w h n : ℕ} → Fits W x y w h n → (y + h) * 4 ≤ n
-area-height {y = y} {h = h} fits = omega (arith, fits.down, le-mul_of_pos_right (y + h) fits.some)
-
-pub area-size : {W x y w h n : ℕ} → Fits W x y w h n → w * h * 4 ≤ n
-area-size {W} {x} {y} {w} {h} fits =
-    let b : w * h ≤ W * (y + h) = mul-le-mul (omega (arith, fits.across)) (omega arith) in
-    omega (arith, fits.down, mul_comm W (y + h))
+-- the dots of a row of an area that fits lie in the buffer
+pub row-room : {W x y w h n : ℕ} → Fits W x y w h n → (row : ℕ) → row < y + h → (row * W + x + w) * 4 ≤ n
+row-room {W} {x} {y} {w} {h} fits row below =
+    let last : (row + 1) * W ≤ (y + h) * W = mul-le-mul_right W (omega arith) in
+    omega (arith, fits.across, fits.down, add-mul row 1 W)
 
 -- ---- an area changed
 

@@ -1,5 +1,4 @@
 pub mod Laws
-pub mod Rows
 mod Pixels
 mod Flips
 mod Borders

@@ -1,13 +1,7 @@
 -- Rows for which there may be fewer pixels than dots, or none. Assumes nothing.
-use mathlib.Core.Path.{◌≡◌}
-use mathlib.Core.List.{List}
-use mathlib.Core.Bool.{Bool}
-use Prim.Native.Nat.{ℕ, ◌+◌, ◌-◌, ◌*◌, ◌≤◌, ◌<◌, min}
-use native.Mathlib.Omega.{arith}
-use borrow.Author.Tests.{lt-ltb, le-ltb}
+use Rattle.std.proofs.Common.{◌≡◌, List, Bool, ℕ, ◌+◌, ◌-◌, ◌*◌, ◌≤◌, ◌<◌, min, arith, lt-ltb, le-ltb, if◌then◌else◌}
 use Rattle.numbers.specs.Numbers.{limit}
 use Rattle.numbers.proofs.Sides.{area}
-use Rattle.std.specs.Prelude.{if◌then◌else◌}
 use Rattle.dots.specs.Dots.{dot_at, change, within, drawn}
 use Rattle.dots.proofs.Laws.{change-idle, change-same, Place, before, inside, past, place, within-yes, within_low, within-high}
 use Rattle.areas.specs.Areas.{pixel_drawn}

@@ -1,9 +1,13 @@
--- Each public function's contract leaves one content of the buffer. Assumes nothing.
-use Rattle.numbers.proofs.OneAnswer.{OneContent, both}
+-- Each public function's contract leaves one answer or one content of the buffer. Assumes nothing.
+use Rattle.numbers.proofs.OneAnswer.{OneAnswer, OneContent, both}
+use Rattle.areas.proofs.area.Area.start_of.Reads as start-of
 use Rattle.areas.proofs.draw.draw_area.Reads as draw-area
 use Rattle.areas.proofs.put.put_area.Reads as put-area
 use Rattle.areas.proofs.flip.flip_area.Reads as flip-area
 use Rattle.areas.proofs.border.border_area.Reads as border-area
+
+start-of-one : OneAnswer start-of.Post
+start-of-one k a x y e f p q = both p q
 
 draw-area-one : OneContent draw-area.Post (λ k e. e.0.now)
 draw-area-one k a x y e f p q = both p q

@@ -3,6 +3,7 @@ ghost use Rattle.std.specs.Prelude.{◌≡◌, ◌⊎◌, ◌+◌, ◌*◌, ◌�
 ghost use Rattle.areas.specs.Areas.{Fits, flipped_on};
 ghost use Rattle.areas.specs.Steps.{pair_on};
 
+use super::area::Area;
 use moves::copy_run;
 use pixels::put_run;
 
@@ -31,24 +32,22 @@ fn flip_rows(buf: &mut [u8], top: usize, bottom: usize, w: usize)
     requires { ((top ≡ bottom) ⊎ (top + w ≤ bottom)) × (top ≤ bottom) × ((bottom + w) * 4 ≤ length buf.old) }
     ensures { buf.new ≡ pair_on top bottom w buf.old }
 {
-    let mut i = 0;
-    while w - i >= PIECE {
-        flip_some(buf, top + i, bottom + i, PIECE);
-        i += PIECE;
+    let pieces = w / PIECE;
+    for p in 0..pieces {
+        flip_some(buf, top + p * PIECE, bottom + p * PIECE, PIECE);
     }
+    let i = pieces * PIECE;
     flip_some(buf, top + i, bottom + i, w - i);
 }
 
 // Rows in pairs, from the outermost to the middle.
-pub fn flip_area(buf: &mut [u8], wide: usize, x: usize, y: usize, w: usize, h: usize)
-    requires { Fits wide x y w h (length buf.old) }
-    ensures { buf.new ≡ flipped_on wide x y w h buf.old }
+pub fn flip_area(buf: &mut [u8], area: Area)
+    requires { Fits area.wide area.x area.y area.w area.h (length buf.old) }
+    ensures { buf.new ≡ flipped_on area.wide area.x area.y area.w area.h buf.old }
 {
-    let mut top = y;
-    let mut bottom = y + h;
-    while top < bottom {
-        bottom -= 1;
-        flip_rows(buf, top * wide + x, bottom * wide + x, w);
-        top += 1;
+    for j in 0..(area.h + 1) / 2 {
+        let top = area.start_of(j);
+        let bottom = area.start_of(area.h - 1 - j);
+        flip_rows(buf, top, bottom, area.w);
     }
 }

@@ -4,7 +4,7 @@ ghost use Rattle.numbers.specs.Numbers.{limit};
 ghost use Rattle.dots.specs.Dots.{change, within};
 ghost use Rattle.areas.specs.Areas.{Fits, area_on, pixel_drawn};
 
-use numbers::smaller;
+use super::area::Area;
 use pixels::put_run;
 
 // A row for which there may be fewer pixels than dots, or none.
@@ -23,28 +23,16 @@ fn put_row(
     if n <= from {
         return;
     }
-    let count = smaller(w, n - from);
+    let count = w.min(n - from);
     put_run(buf, at, count, pixels, from, multiply);
 }
 
-pub fn put_area(
-    buf: &mut [u8],
-    wide: usize,
-    x: usize,
-    y: usize,
-    w: usize,
-    h: usize,
-    pixels: &[u8],
-    stride: usize,
-    n: usize,
-    multiply: bool,
-)
-    requires { Fits wide x y w h (length buf.old) × (n * 4 ≤ length pixels.now) × (stride ≤ limit) × (h ≤ limit) }
-    ensures { buf.new ≡ area_on wide x y w h (λ i j d. pixel_drawn multiply pixels.now n (j * stride + i) d) buf.old }
+pub fn put_area(buf: &mut [u8], area: Area, pixels: &[u8], stride: usize, n: usize, multiply: bool)
+    requires { Fits area.wide area.x area.y area.w area.h (length buf.old) × (n * 4 ≤ length pixels.now) × (stride ≤ limit) × (area.h ≤ limit) }
+    ensures { buf.new ≡ area_on area.wide area.x area.y area.w area.h (λ i j d. pixel_drawn multiply pixels.now n (j * stride + i) d) buf.old }
 {
-    let mut j = 0;
-    while j < h {
-        put_row(buf, (y + j) * wide + x, w, pixels, j * stride, n, multiply);
-        j += 1;
+    for j in 0..area.h {
+        let at = area.start_of(j);
+        put_row(buf, at, area.w, pixels, j * stride, n, multiply);
     }
 }

@@ -1,5 +1,4 @@
 pub mod Rows
-mod Stretching
 mod Unpacking
 mod Stamping
 mod Unique

@@ -3,8 +3,10 @@
 #![tactic(auto)]
 
 mod bit;
+mod row;
 mod stamp;
 mod unpack;
 
-pub use stamp::stamp_row;
-pub use unpack::unpack_row;
+pub use row::{BitBrush, draw_bits};
+pub use stamp::Stamp;
+pub use unpack::Put;

@@ -354,6 +354,11 @@ run-turn at i g l h r eb ed em = em ∙ rw (ed, eb) (run_step at i g l h r)
 pub run-old : (at i : ℕ) (g : ℕ → RGBA → RGBA) (l : List ℕ) {b : List ℕ} {s : RGBA} → b ≡ change (within at i) g l → s ≡ dot_at b i → s ≡ dot_at l i
 run-old at i g l eb es = es ∙ rw eb (change-kept _ g l i (within-high at i i (omega arith)))
 
+-- a turn that reads dot i and writes what g makes of it
+pub run-dot : (at i : ℕ) (g : RGBA → RGBA) (l : List ℕ) → at ≤ i → i * 4 + 4 ≤ length l → {b m : List ℕ} {s d : RGBA}
+    → b ≡ change (within at i) (λ _ s. g s) l → s ≡ dot_at b i → d ≡ g s → m ≡ set_dot b i d → m ≡ change (within at (i + 1)) (λ _ s. g s) l
+run-dot at i g l h r eb es ed em = run-turn at i _ l h r eb (ed ∙ ap g (run-old at i _ l eb es)) em
+
 -- ---- what drawing comes to, by mode and alpha
 
 pub drawn-none : (t : Bool) (c s : RGBA) → c.a ≡ 0 → s ≡ drawn t c s

@@ -3,10 +3,11 @@ ghost use Rattle.std.specs.Prelude.{◌≡◌, true, ◌+◌, ◌*◌, ◌≤◌
 ghost use Rattle.dots.specs.Dots.{change, within, drawn};
 ghost use Rattle.dots.specs.Tables.{needs_tables, covers};
 
+use super::brush::Brush;
 use super::dot::{get_dot, set_dot};
 use super::fill::fill_run;
-use super::mix::{mix_factors, mix_run, mix_terms};
-use super::multiply::{multiply_dot, multiply_run, multiply_table};
+use super::mix::Mix;
+use super::multiply::{Tables, multiply_dot};
 use colour::RGBA;
 
 fn draw_dot(s: RGBA, multiply: bool, c: RGBA) -> RGBA
@@ -19,18 +20,23 @@ fn draw_dot(s: RGBA, multiply: bool, c: RGBA) -> RGBA
     s.blend_foreground(c)
 }
 
-// Dot by dot, with nothing made beforehand.
-fn draw_few(buf: &mut [u8], at: usize, count: usize, multiply: bool, c: RGBA)
-    requires { ((at + count) * 4 ≤ length buf.old) × (0 < c.a) }
-    ensures { buf.new ≡ change (within at (at + count)) (λ _ s. drawn multiply c s) buf.old }
-{
-    let end = at + count;
-    let mut i = at;
-    while i < end {
-        let s = get_dot(buf, i);
-        let d = draw_dot(s, multiply, c);
-        set_dot(buf, i, d);
-        i += 1;
+// Draws dot by dot, with nothing made beforehand.
+#[derive(Drop)]
+pub struct Pen {
+    pub color: RGBA,
+    pub multiply: bool,
+    ghost some: { 0 < color.a },
+}
+
+impl Brush for Pen {
+    ghost dot = { λ p s. drawn p.multiply p.color s };
+
+    fn draw_dots(&self, buf: &mut [u8], at: usize, count: usize) {
+        for i in at..at + count {
+            let s = get_dot(buf, i);
+            let d = draw_dot(s, self.multiply, self.color);
+            set_dot(buf, i, d);
+        }
     }
 }
 
@@ -45,34 +51,29 @@ const LANE_DOTS: usize = 8;
 pub fn needs_tables(c: RGBA, multiply: bool) -> bool
     ensures { result ≡ needs_tables multiply c }
 {
-    if multiply {
-        return c.a != RGBA::OPAQUE;
-    }
-    false
+    multiply && c.a != RGBA::OPAQUE
 }
 
 // An opaque colour that is blended covers what was there.
 pub fn covers(c: RGBA, multiply: bool) -> bool
     ensures { result ≡ covers multiply c }
 {
-    if multiply {
-        return false;
-    }
-    c.a == RGBA::OPAQUE
+    !multiply && c.a == RGBA::OPAQUE
 }
 
-fn multiply_some(buf: &mut [u8], at: usize, count: usize, multiply: bool, c: RGBA)
-    requires { ((at + count) * 4 ≤ length buf.old) × (0 < c.a) × (multiply ≡ true) }
-    ensures { buf.new ≡ change (within at (at + count)) (λ _ s. drawn multiply c s) buf.old }
+fn multiply_some(buf: &mut [u8], at: usize, count: usize, c: RGBA)
+    requires { ((at + count) * 4 ≤ length buf.old) × (0 < c.a) }
+    ensures { buf.new ≡ change (within at (at + count)) (λ _ s. drawn true c s) buf.old }
 {
     if count < TABLE_DOTS {
-        draw_few(buf, at, count, multiply, c);
+        let pen = Pen {
+            color: c,
+            multiply: true,
+        };
+        pen.draw_dots(buf, at, count);
         return;
     }
-    let tr = multiply_table(c.r, c.a);
-    let tg = multiply_table(c.g, c.a);
-    let tb = multiply_table(c.b, c.a);
-    multiply_run(buf, at, count, c, &tr, &tg, &tb);
+    Tables::of(c).draw_dots(buf, at, count);
 }
 
 pub fn draw_run(buf: &mut [u8], at: usize, count: usize, multiply: bool, c: RGBA)
@@ -83,7 +84,7 @@ pub fn draw_run(buf: &mut [u8], at: usize, count: usize, multiply: bool, c: RGBA
         return;
     }
     if needs_tables(c, multiply) {
-        multiply_some(buf, at, count, multiply, c);
+        multiply_some(buf, at, count, c);
         return;
     }
     if covers(c, multiply) {
@@ -91,10 +92,8 @@ pub fn draw_run(buf: &mut [u8], at: usize, count: usize, multiply: bool, c: RGBA
         return;
     }
     if count < LANE_DOTS {
-        draw_few(buf, at, count, multiply, c);
+        Pen { color: c, multiply }.draw_dots(buf, at, count);
         return;
     }
-    let m = mix_factors(c, multiply);
-    let k = mix_terms(c, multiply);
-    mix_run(buf, at, count, c, multiply, &m, &k);
+    Mix::of(c, multiply).draw_dots(buf, at, count);
 }

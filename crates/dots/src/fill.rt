@@ -2,6 +2,7 @@
 ghost use Rattle.std.specs.Prelude.{◌≡◌, ◌+◌, ◌*◌, ◌≤◌, length};
 ghost use Rattle.dots.specs.Dots.{change, within};
 
+use super::brush::Brush;
 use super::dot::set_dot;
 use colour::RGBA;
 
@@ -10,10 +11,21 @@ pub fn fill_run(buf: &mut [u8], at: usize, count: usize, c: RGBA)
     requires { (at + count) * 4 ≤ length buf.old }
     ensures { buf.new ≡ change (within at (at + count)) (λ _ _. c) buf.old }
 {
-    let end = at + count;
-    let mut i = at;
-    while i < end {
+    for i in at..at + count {
         set_dot(buf, i, c);
-        i += 1;
+    }
+}
+
+// Covers what was there.
+#[derive(Drop)]
+pub struct Fill {
+    pub color: RGBA,
+}
+
+impl Brush for Fill {
+    ghost dot = { λ f _. f.color };
+
+    fn draw_dots(&self, buf: &mut [u8], at: usize, count: usize) {
+        fill_run(buf, at, count, self.color);
     }
 }

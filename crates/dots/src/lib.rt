@@ -2,14 +2,16 @@
 // the whole buffer and dots that its caller knows to lie in it.
 #![tactic(auto)]
 
+mod brush;
 mod dot;
 mod draw;
 mod fill;
 mod mix;
 mod multiply;
 
+pub use brush::Brush;
 pub use dot::{get_dot, load_dot, set_dot, store_dot};
-pub use draw::{TABLE_DOTS, covers, draw_run, needs_tables};
-pub use fill::fill_run;
-pub use mix::{mix_byte, mix_factors, mix_run, mix_terms};
-pub use multiply::{multiply_run, multiply_table, scale_byte};
+pub use draw::{Pen, TABLE_DOTS, covers, draw_run, needs_tables};
+pub use fill::{Fill, fill_run};
+pub use mix::{Mix, mix_byte, mix_factors, mix_terms};
+pub use multiply::{Tables, multiply_table, scale_byte};

@@ -1,23 +1,23 @@
 // A colour drawn over a run of dots byte by byte, against arrays of 64 numbers that are made once,
 // since bytes in a row become vectors of 16-bit numbers.
-ghost use Rattle.std.specs.Prelude.{◌≡◌, ◌+◌, ◌*◌, ◌/◌, ◌≤◌, length};
+ghost use Rattle.std.specs.Prelude.{◌≡◌, ℕ, ◌+◌, ◌*◌, ◌/◌, ◌%◌, ◌≤◌, ◌<◌, length};
 ghost use Rattle.colour.specs.Colour.{rgba};
-ghost use Rattle.dots.specs.Dots.{change, within, drawn};
+ghost use Rattle.dots.specs.Dots.{chan, change, within, drawn};
 ghost use Rattle.dots.specs.Tables.{lanes, factors, terms, Whole};
 
+use super::brush::Brush;
 use colour::RGBA;
 
 fn lanes(x: u16, y: u16, z: u16, w: u16) -> [u16; 64]
     ensures { result ≡ lanes (rgba x y z w) }
 {
     let mut p = [0u16; 64];
-    let mut j = 0;
-    while j < 64 {
+    for i in 0..16 {
+        let j = i * 4;
         p[j] = x;
         p[j + 1] = y;
         p[j + 2] = z;
         p[j + 3] = w;
-        j += 4;
     }
     p
 }
@@ -65,47 +65,63 @@ pub fn mix_byte(s: u8, m: u16, k: u16) -> u8
     ((t + t / 256) / 256) as u8
 }
 
-// Where `count` is the constant 16 the compiler makes vectors of the loop.
-fn mix_some(
-    buf: &mut [u8],
-    at: usize,
-    count: usize,
-    c: RGBA,
-    multiply: bool,
-    m: &[u16; 64],
-    k: &[u16; 64],
-)
-    requires count_bound { (count ≤ 16) × ((at + count) * 4 ≤ length buf.old) × Whole multiply c }
-    requires m_value { (m.now ≡ lanes (factors multiply c)) × (k.now ≡ lanes (terms multiply c)) }
-    ensures { buf.new ≡ change (within at (at + count)) (λ _ s. drawn multiply c s) buf.old }
-{
-    let from = at * 4;
-    let n = count * 4;
-    let mut j = 0;
-    while j < n {
-        buf[from + j] = mix_byte(buf[from + j], m[j], k[j]);
-        j += 1;
+// A colour with its factors and terms, one of each for each byte of 16 dots.
+#[derive(Drop)]
+pub struct Mix {
+    pub color: RGBA,
+    pub multiply: bool,
+    factor: [u16; 64],
+    term: [u16; 64],
+    ghost whole: { Whole multiply color },
+    ghost bytes: { (k : ℕ) → k < 4 → chan color k ≤ 255 },
+    ghost made: { (factor ≡ lanes (factors multiply color)) × (term ≡ lanes (terms multiply color)) },
+}
+
+impl Mix {
+    pub fn of(color: RGBA, multiply: bool) -> Mix
+        requires { Whole multiply color }
+        ensures { (result.color ≡ color) × (result.multiply ≡ multiply) }
+    {
+        Mix {
+            color,
+            multiply,
+            factor: mix_factors(color, multiply),
+            term: mix_terms(color, multiply),
+        }
+    }
+
+    // What byte j of the 16 dots becomes where it was s: a byte hangs on the byte before it alone.
+    pub fn byte(&self, j: usize, s: u8) -> u8
+        requires { j < 64 }
+        ensures { result ≡ chan (drawn self.now.multiply self.now.color (rgba s s s s)) (j % 4) }
+    {
+        mix_byte(s, self.factor[j], self.term[j])
     }
 }
 
-pub fn mix_run(
-    buf: &mut [u8],
-    at: usize,
-    count: usize,
-    c: RGBA,
-    multiply: bool,
-    m: &[u16; 64],
-    k: &[u16; 64],
-)
-    requires count_in_bounds { ((at + count) * 4 ≤ length buf.old) × Whole multiply c }
-    requires m_value { (m.now ≡ lanes (factors multiply c)) × (k.now ≡ lanes (terms multiply c)) }
-    ensures { buf.new ≡ change (within at (at + count)) (λ _ s. drawn multiply c s) buf.old }
+// The dots that go at once.
+const BLOCK: usize = 16;
+
+// Where `count` is the constant 16 the compiler makes vectors of the loop.
+fn mix_some(buf: &mut [u8], at: usize, count: usize, mix: &Mix)
+    requires { (count ≤ 16) × ((at + count) * 4 ≤ length buf.old) }
+    ensures { buf.new ≡ change (within at (at + count)) (λ _ s. drawn mix.now.multiply mix.now.color s) buf.old }
 {
-    let end = at + count;
-    let mut i = at;
-    while end - i >= 16 {
-        mix_some(buf, i, 16, c, multiply, m, k);
-        i += 16;
+    let from = at * 4;
+    for j in 0..count * 4 {
+        buf[from + j] = mix.byte(j, buf[from + j]);
     }
-    mix_some(buf, i, end - i, c, multiply, m, k);
+}
+
+impl Brush for Mix {
+    ghost dot = { λ m s. drawn m.multiply m.color s };
+
+    fn draw_dots(&self, buf: &mut [u8], at: usize, count: usize) {
+        let blocks = count / BLOCK;
+        for b in 0..blocks {
+            mix_some(buf, at + b * BLOCK, BLOCK, self);
+        }
+        let done = blocks * BLOCK;
+        mix_some(buf, at + done, count - done, self);
+    }
 }

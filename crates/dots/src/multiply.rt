@@ -7,6 +7,7 @@ ghost use Rattle.colour.specs.Colour.{multiplied};
 ghost use Rattle.dots.specs.Dots.{change, within};
 ghost use Rattle.dots.specs.Tables.{multiply_table};
 
+use super::brush::Brush;
 use super::dot::{get_dot, set_dot};
 use colour::RGBA;
 
@@ -41,46 +42,55 @@ pub fn multiply_table(c: u8, a: u8) -> [u8; 256]
 {
     let f = (c as u32) * (a as u32);
     let mut t = [0u8; 256];
-    let mut s = 0;
-    while s < 256 {
+    for s in 0..256 {
         t[s] = scale_byte(s as u8, f);
-        s += 1;
     }
     t
 }
 
-fn look_up(s: RGBA, c: RGBA, tr: &[u8; 256], tg: &[u8; 256], tb: &[u8; 256]) -> RGBA
-    requires a_nonzero { 0 < c.a }
-    requires tr_value { (tr.now ≡ multiply_table c.r c.a) × (tg.now ≡ multiply_table c.g c.a) × (tb.now ≡ multiply_table c.b c.a) }
-    ensures { result ≡ multiplied c s }
-{
-    RGBA {
-        r: tr[s.r as usize],
-        g: tg[s.g as usize],
-        b: tb[s.b as usize],
-        a: s.a,
+// A colour with the tables of its channels.
+#[derive(Drop)]
+pub struct Tables {
+    pub color: RGBA,
+    pub r: [u8; 256],
+    pub g: [u8; 256],
+    pub b: [u8; 256],
+    ghost some: { 0 < color.a },
+    ghost made: { (r ≡ multiply_table color.r color.a) × (g ≡ multiply_table color.g color.a) × (b ≡ multiply_table color.b color.a) },
+}
+
+impl Tables {
+    pub fn of(color: RGBA) -> Tables
+        requires { 0 < color.a }
+        ensures { result.color ≡ color }
+    {
+        Tables {
+            color,
+            r: multiply_table(color.r, color.a),
+            g: multiply_table(color.g, color.a),
+            b: multiply_table(color.b, color.a),
+        }
+    }
+
+    fn look_up(&self, s: RGBA) -> RGBA
+        ensures { result ≡ multiplied self.now.color s }
+    {
+        RGBA {
+            r: self.r[s.r as usize],
+            g: self.g[s.g as usize],
+            b: self.b[s.b as usize],
+            a: s.a,
+        }
     }
 }
 
-pub fn multiply_run(
-    buf: &mut [u8],
-    at: usize,
-    count: usize,
-    c: RGBA,
-    tr: &[u8; 256],
-    tg: &[u8; 256],
-    tb: &[u8; 256],
-)
-    requires count_in_bounds { ((at + count) * 4 ≤ length buf.old) × (0 < c.a) }
-    requires tr_value { (tr.now ≡ multiply_table c.r c.a) × (tg.now ≡ multiply_table c.g c.a) × (tb.now ≡ multiply_table c.b c.a) }
-    ensures { buf.new ≡ change (within at (at + count)) (λ _ s. multiplied c s) buf.old }
-{
-    let end = at + count;
-    let mut i = at;
-    while i < end {
-        let s = get_dot(buf, i);
-        let d = look_up(s, c, tr, tg, tb);
-        set_dot(buf, i, d);
-        i += 1;
+impl Brush for Tables {
+    ghost dot = { λ t s. multiplied t.color s };
+
+    fn draw_dots(&self, buf: &mut [u8], at: usize, count: usize) {
+        for i in at..at + count {
+            let s = get_dot(buf, i);
+            set_dot(buf, i, self.look_up(s));
+        }
     }
 }

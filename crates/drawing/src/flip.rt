@@ -2,7 +2,7 @@
 ghost use Rattle.std.specs.Prelude.{◌≡◌, length};
 ghost use Rattle.drawing.specs.Drawing.{flip, flip_on};
 
-use areas::flip_area;
+use areas::{Area, flip_area};
 use places::{flip_refusal, flip_tall};
 use thermal_image::{Answer, ThermalImage};
 
@@ -15,13 +15,13 @@ pub fn flip_pixels(image: ThermalImage, x: u32, y: u32, w: u32, h: u32, buf: &mu
     }
     let rows = flip_tall(image, y, h);
     let answer = image.expand_to_height(rows as u32, buf);
-    flip_area(
-        buf,
-        image.width as usize,
-        x as usize,
-        y as usize,
-        w as usize,
-        h as usize,
-    );
+    let area = Area {
+        wide: image.width as usize,
+        x: x as usize,
+        y: y as usize,
+        w: w as usize,
+        h: h as usize,
+    };
+    flip_area(buf, area);
     answer
 }

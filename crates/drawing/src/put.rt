@@ -4,7 +4,7 @@ ghost use Rattle.thermal_image.specs.Canvas.{sized, finished};
 ghost use Rattle.drawing.specs.Drawing.{placed, pixels_drawn, put, put_on, image_put, image_on};
 ghost use Rattle.places.specs.Steps.{Ready};
 
-use areas::{flip_area, put_area};
+use areas::{Area, flip_area, put_area};
 use places::{crop_pixels, flips, image_tall, place_refusal, tall_after};
 use thermal_image::{Answer, ThermalImage};
 
@@ -26,18 +26,14 @@ fn put_on(
 {
     let c = crop_pixels(image, x, y, w, h);
     let answer = image.expand_to_height(rows as u32, buf);
-    put_area(
-        buf,
-        image.width as usize,
-        x as usize,
-        y as usize,
-        c.w as usize,
-        c.h as usize,
-        pixels,
-        w as usize,
-        pixels.len() / 4,
-        multiply,
-    );
+    let area = Area {
+        wide: image.width as usize,
+        x: x as usize,
+        y: y as usize,
+        w: c.w as usize,
+        h: c.h as usize,
+    };
+    put_area(buf, area, pixels, w as usize, pixels.len() / 4, multiply);
     answer
 }
 
@@ -80,14 +76,14 @@ pub fn put_render_img(
     }
     let answer = put_on(image, x, y, w, h, rows, pixels, true, buf);
     if flips(upside_down, image, x, w, h) {
-        flip_area(
-            buf,
-            image.width as usize,
-            x as usize,
-            y as usize,
-            w as usize,
-            h as usize,
-        );
+        let area = Area {
+            wide: image.width as usize,
+            x: x as usize,
+            y: y as usize,
+            w: w as usize,
+            h: h as usize,
+        };
+        flip_area(buf, area);
         return answer;
     }
     answer

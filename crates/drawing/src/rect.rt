@@ -2,7 +2,7 @@
 ghost use Rattle.std.specs.Prelude.{◌≡◌, true, length};
 ghost use Rattle.drawing.specs.Drawing.{rect, rect_on};
 
-use areas::draw_area;
+use areas::{Area, draw_area};
 use colour::RGBA;
 use places::{crop_pixels, rect_refusal, tall_after};
 use thermal_image::{Answer, ThermalImage};
@@ -26,16 +26,14 @@ pub fn draw_rect(
     }
     let c = crop_pixels(image, x, y, w, h);
     let answer = image.expand_to_height(rows as u32, buf);
-    draw_area(
-        buf,
-        image.width as usize,
-        x as usize,
-        y as usize,
-        c.w as usize,
-        c.h as usize,
-        color,
-        multiply,
-    );
+    let area = Area {
+        wide: image.width as usize,
+        x: x as usize,
+        y: y as usize,
+        w: c.w as usize,
+        h: c.h as usize,
+    };
+    draw_area(buf, area, color, multiply);
     answer
 }
 

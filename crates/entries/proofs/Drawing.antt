@@ -1,14 +1,7 @@
 -- The entry's part of the rows that stand in a buffer, as an area of it. Assumes nothing.
-use mathlib.Core.Path.{◌≡◌, refl, sym, ◌∙◌}
-use mathlib.Core.Logic.{inr}
-use mathlib.Core.Bool.{Bool, true, false, ◌&&◌, and-false}
-use mathlib.Core.List.{List}
-use Prim.Native.Nat.{ℕ, ◌+◌, ◌-◌, ◌/◌, ◌%◌, ◌≤◌, ◌<◌, min, max}
-use native.Mathlib.Nat.{mod-lt, mul-le-mul_right, sub-zero}
-use native.Mathlib.Omega.{arith}
-use lib.Dec.{leb, eqb}
-use borrow.Author.Tests.{leb-true, eq-eqb, ne_eqb}
-use Rattle.std.specs.Prelude.{if◌then◌else◌}
+use Rattle.std.proofs.Common.{◌≡◌, refl, sym, ◌∙◌, inr, Bool, true, false, ◌&&◌, List, ℕ, ◌+◌, ◌-◌, ◌/◌, ◌%◌, ◌≤◌, ◌<◌, min, max, mod-lt, mul-le-mul_right, arith, leb, eqb, leb-true, eq-eqb, ne_eqb, if◌then◌else◌}
+use mathlib.Core.Bool.{and-false}
+use native.Mathlib.Nat.{sub-zero}
 use Rattle.colour.specs.declared.RGBA.{RGBA}
 use Rattle.colour.proofs.Tests.{and_both}
 use Rattle.dots.specs.Dots.{dot_at, within, drawn}
@@ -120,12 +113,12 @@ module _ (s : List ℕ) (e : Entry) (W top from rows : ℕ) (l : List ℕ) {firs
 
 -- ---- the entry's own rows of a rectangle, and of an image
 
-module _ (s : List ℕ) (e : Entry) (own W row rows : ℕ) (l : List ℕ) {m : List ℕ} where
-  pub own-rectangle : e.kind ≡ rectangle_kind → m ≡ area_on W e.x row e.w rows (λ _ _ d. drawn (multiplies e.mode) e.color d) l → m ≡ area_on W e.x row e.w rows (own_row s e own) l
+module _ (s : List ℕ) (e : Entry) (own W x y w h : ℕ) (l : List ℕ) {m : List ℕ} where
+  pub own-rectangle : e.kind ≡ rectangle_kind → m ≡ area_on W x y w h (λ _ _ d. drawn (multiplies e.mode) e.color d) l → m ≡ area_on W x y w h (own_row s e own) l
   unfolding entry_pixel
   own-rectangle k em = em ∙ area-by _ _ _ _ _ _ l _ (λ i j u v. rw (eq-eqb e.kind rectangle_kind k))
 
-  pub own-image : (e.kind ≡ rectangle_kind → ⊥) → m ≡ area_on W e.x row e.w rows (λ i j d. drawn (multiplies e.mode) (image_pixel s e i (own + j)) d) l
-      → m ≡ area_on W e.x row e.w rows (own_row s e own) l
+  pub own-image : (e.kind ≡ rectangle_kind → ⊥) → m ≡ area_on W x y w h (λ i j d. drawn (multiplies e.mode) (image_pixel s e i (own + j)) d) l
+      → m ≡ area_on W x y w h (own_row s e own) l
   unfolding entry_pixel
   own-image k em = em ∙ area-by _ _ _ _ _ _ l _ (λ i j u v. rw (ne_eqb e.kind rectangle_kind k))

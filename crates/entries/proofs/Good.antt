@@ -1,9 +1,5 @@
 -- The entries that the constructors make keep the rules. Assumes nothing.
-use Prim.Native.Nat.{ℕ, ◌+◌, ◌*◌, ◌-◌, ◌≤◌, ◌<◌, min}
-use mathlib.Core.Path.{◌≡◌, refl}
-use mathlib.Core.Bool.{true}
-use native.Mathlib.Omega.{arith}
-use borrow.Author.Tests.{le-leb, eq-eqb}
+use Rattle.std.proofs.Common.{ℕ, ◌+◌, ◌*◌, ◌-◌, ◌≤◌, ◌<◌, min, ◌≡◌, refl, true, arith, le-leb, eq-eqb}
 use Rattle.colour.specs.declared.RGBA.{RGBA}
 use Rattle.images.specs.declared.formats.Format.TheVariants.{Bits}
 use Rattle.images.specs.Formats.{bytes_of}

@@ -1,13 +1,5 @@
 -- An image's entry that keeps the rules: where its data are, and its rows as rows of bits. Assumes nothing.
-use mathlib.Core.Path.{◌≡◌, sym, ap, ◌∙◌}
-use mathlib.Core.Bool.{Bool, true}
-use mathlib.Core.List.{List}
-use Prim.Native.Nat.{ℕ, ◌+◌, ◌-◌, ◌*◌, ◌/◌, ◌%◌, ◌^◌, ◌≤◌, ◌<◌}
-use native.Mathlib.Nat.{div-lt_iff_lt-mul, mul-le-mul_right, mul_comm, add-mul, add_assoc}
-use native.Mathlib.Omega.{arith}
-use lib.ListN.{drop}
-use lib.Seq.{get_or-drop}
-use borrow.Author.Tests.{leb-true, eqb-true}
+use Rattle.std.proofs.Common.{◌≡◌, sym, ap, ◌∙◌, Bool, true, List, ℕ, ◌+◌, ◌-◌, ◌*◌, ◌/◌, ◌%◌, ◌^◌, ◌≤◌, ◌<◌, div-lt_iff_lt-mul, mul-le-mul_right, mul_comm, add-mul, add_assoc, arith, drop, get_or-drop, leb-true, eqb-true}
 use Rattle.colour.specs.Colour.{with_alpha}
 use Rattle.colour.proofs.Tests.{and_both}
 use Rattle.dots.specs.Dots.{dot_at, change, within, drawn}
@@ -51,8 +43,9 @@ module _ {n : ℕ} {e : Entry} (g : Image n e) {j : ℕ} (h : j < e.h) where
       let rows : (q + 1) * r ≤ e.original_height * r = mul-le-mul_right r (omega arith) in
       omega (arith, g.part, rows, add-mul q 1 r, mul_comm e.original_height r)
 
-  pub row-shown : Shown (e.start + j / e.stretch_y * row_bytes e.original_width) e.stretch_x e.w n
-  row-shown i u =
+  -- and so do those of its first w dots
+  pub row-shown : {w : ℕ} → w ≤ e.w → Shown (e.start + j / e.stretch_y * row_bytes e.original_width) e.stretch_x w n
+  row-shown v i u =
       let x : i / e.stretch_x < e.original_width = (div-lt_iff_lt-mul g.fx).1 (omega (arith, g.wide)) in
       omega (arith, row-in-part)
 
@@ -62,12 +55,12 @@ unfolding bit_alpha
 alpha-drop s start at k =
     ap (λ (b : ℕ). b / 2 ^ (7 - k % 8) % 2 * 255) (rw (add_assoc start at (k / 8)) (sym (get_or-drop start s (at + k / 8) 0)))
 
--- a row of bits is the entry's own row j
-pub image-is-row : (s : List ℕ) (e : Entry) (t : Bool) (at j : ℕ) (l : List ℕ) {m : List ℕ}
-    → m ≡ bits_on (alpha_drawn t e.color) s (e.start + j / e.stretch_y * row_bytes e.original_width) e.stretch_x at e.w l
-    → m ≡ change (within at (at + e.w)) (λ i d. drawn t (image_pixel s e (i - at) j) d) l
+-- w dots of bits are the first of the entry's own row j
+pub image-is-row : (s : List ℕ) (e : Entry) (t : Bool) (at w j : ℕ) (l : List ℕ) {m : List ℕ}
+    → m ≡ bits_on (alpha_drawn t e.color) s (e.start + j / e.stretch_y * row_bytes e.original_width) e.stretch_x at w l
+    → m ≡ change (within at (at + w)) (λ i d. drawn t (image_pixel s e (i - at) j) d) l
 unfolding bits_on image_pixel pixel_of alpha_of
-image-is-row s e t at j l em =
+image-is-row s e t at w j l em =
     em
     ∙ change-by _ _ _ l
     (λ i p. ap (λ (alpha : ℕ). drawn t (with_alpha e.color alpha) (dot_at l i)) (alpha-drop s e.start (j / e.stretch_y * row_bytes e.original_width) ((i - at) / e.stretch_x)))

@@ -12,11 +12,10 @@ ghost use Rattle.areas.specs.Areas.{Fits, area_on};
 ghost use Rattle.entries.specs.Entries.{rectangle_entry, image_entry, good_kind, good_entry};
 ghost use Rattle.entries.specs.Steps.{own_row, entry_rows, Placed};
 
-use areas::draw_area;
+use areas::{Area, draw_area};
 use colour::RGBA;
 use image::image_rows;
 use images::factor_of;
-use numbers::{larger, smaller, smaller_side};
 pub use rules::good_entry;
 
 // Kind and mode are the job's numbers. A rectangle has zeros from the stretch on; the bit rows of an
@@ -47,11 +46,12 @@ impl Entry {
 
     pub const MULTIPLY: u8 = 1;
 
+    #[tactic(auto, unfolding(crate::specs::Entries::rectangle_entry))]
     pub fn rectangle(width: u32, x: u32, y: u32, w: u32, h: u32, color: RGBA, mode: u8) -> Entry
         requires { x ≤ width }
         ensures { result ≡ rectangle_entry width x y w h color mode }
     {
-        let cut = smaller_side(w, width - x);
+        let cut = w.min(width - x);
         Entry {
             kind: Entry::RECTANGLE,
             mode,
@@ -68,6 +68,7 @@ impl Entry {
         }
     }
 
+    #[tactic(auto, unfolding(crate::specs::Entries::image_entry))]
     pub fn image(
         width: u32,
         x: u32,
@@ -85,7 +86,7 @@ impl Entry {
     {
         let fx = factor_of(sx);
         let fy = factor_of(sy);
-        let cut = smaller_side(w * fx, width - x);
+        let cut = (w * fx).min(width - x);
         Entry {
             kind: Entry::IMAGE,
             mode,
@@ -103,26 +104,18 @@ impl Entry {
     }
 }
 
-// The entry's own rows from `own` on, at row `row` of a buffer.
-fn draw_part(
-    buf: &mut [u8],
-    wide: usize,
-    row: usize,
-    e: Entry,
-    own: usize,
-    rows: usize,
-    data: &[u8],
-)
-    requires { (good_kind (length «data».now) e ≡ true) × (own + rows ≤ e.h) × (wide ≤ limit) × Fits wide e.x row e.w rows (length buf.old) }
-    ensures { buf.new ≡ area_on wide e.x row e.w rows (own_row «data».now e own) buf.old }
+// The entry's own rows from `own` on.
+fn draw_part(buf: &mut [u8], area: Area, e: Entry, own: usize, data: &[u8])
+    requires part { (good_kind (length «data».now) e ≡ true) × (own + area.h ≤ e.h) × (area.w ≤ e.w) }
+    requires fits { (area.wide ≤ limit) × Fits area.wide area.x area.y area.w area.h (length buf.old) }
+    ensures { buf.new ≡ area_on area.wide area.x area.y area.w area.h (own_row «data».now e own) buf.old }
 {
     let multiply = e.mode == Entry::MULTIPLY;
     if e.kind == Entry::RECTANGLE {
-        let x = e.x as usize;
-        draw_area(buf, wide, x, row, e.w as usize, rows, e.color, multiply);
+        draw_area(buf, area, e.color, multiply);
         return;
     }
-    image_rows(buf, wide, row, e, own, rows, data, multiply);
+    image_rows(buf, area, e, own, data, multiply);
 }
 
 // The entry's part of the rows that stand in the buffer. Most entries of a plan have none in a row.
@@ -138,12 +131,18 @@ pub fn draw_entry(
     requires { Placed wide top from rows (length buf.old) × (good_entry wide limit (length «data».now) e ≡ true) }
     ensures { buf.new ≡ entry_rows «data».now e wide top from rows buf.old }
 {
-    let first = larger(from, e.y as usize);
-    let last = smaller(from + rows, e.y as usize + e.h as usize);
+    let first = from.max(e.y as usize);
+    let last = (from + rows).min(e.y as usize + e.h as usize);
     if last <= first {
         return;
     }
-    let row = top + (first - from);
+    let area = Area {
+        wide,
+        x: e.x as usize,
+        y: top + (first - from),
+        w: e.w as usize,
+        h: last - first,
+    };
     let own = first - e.y as usize;
-    draw_part(buf, wide, row, e, own, last - first, data);
+    draw_part(buf, area, e, own, data);
 }

@@ -5,57 +5,41 @@ ghost use Rattle.entries.specs.Entries.{good_stretch, good_image, good_kind, goo
 
 use super::Entry;
 
+#[tactic(auto, unfolding(crate::specs::Entries::good_stretch))]
 fn good_stretch(e: Entry) -> bool
     ensures { result ≡ good_stretch e }
 {
-    if e.stretch_x == 0 {
-        return false;
-    }
-    if e.stretch_y == 0 {
-        return false;
-    }
-    if e.original_height as usize * e.stretch_y as usize != e.h as usize {
-        return false;
-    }
-    e.w as usize <= e.original_width as usize * e.stretch_x as usize
+    e.stretch_x > 0
+        && e.stretch_y > 0
+        && e.original_height as usize * e.stretch_y as usize == e.h as usize
+        && e.w as usize <= e.original_width as usize * e.stretch_x as usize
 }
 
+#[tactic(auto, unfolding(crate::specs::Entries::good_image, images::specs::Formats::bytes_of))]
 fn good_image(n: usize, e: Entry) -> bool
     ensures { result ≡ good_image n e }
 {
-    if n < e.start {
-        return false;
-    }
     let size = (e.original_width as usize + 7) / 8 * e.original_height as usize;
-    if n - e.start < size {
-        return false;
-    }
-    good_stretch(e)
+    e.start <= n && size <= n - e.start && good_stretch(e)
 }
 
+#[tactic(auto, unfolding(crate::specs::Entries::good_kind))]
 fn good_kind(n: usize, e: Entry) -> bool
     ensures { result ≡ good_kind n e }
 {
-    if e.kind == Entry::RECTANGLE {
-        return true;
+    match e.kind {
+        Entry::RECTANGLE => true,
+        Entry::IMAGE => good_image(n, e),
+        _ => false,
     }
-    if e.kind == Entry::IMAGE {
-        return good_image(n, e);
-    }
-    false
 }
 
+#[tactic(auto, unfolding(crate::specs::Entries::good_entry))]
 pub fn good_entry(width: u32, height: u32, n: usize, e: Entry) -> bool
     ensures { result ≡ good_entry width height n e }
 {
-    if e.mode > Entry::MULTIPLY {
-        return false;
-    }
-    if e.x as usize + e.w as usize > width as usize {
-        return false;
-    }
-    if e.y as usize + e.h as usize > height as usize {
-        return false;
-    }
-    good_kind(n, e)
+    e.mode <= Entry::MULTIPLY
+        && e.x as usize + e.w as usize <= width as usize
+        && e.y as usize + e.h as usize <= height as usize
+        && good_kind(n, e)
 }

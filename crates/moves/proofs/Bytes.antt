@@ -1,13 +1,8 @@
 -- Bytes that a loop writes one by one, and what they make of the dots. Assumes nothing.
-use mathlib.Core.Path.{◌≡◌, refl, sym, ◌∙◌}
-use mathlib.Core.Logic.{◌≢◌, ⊎_elim}
-use mathlib.Core.List.{List}
-use mathlib.Core.Bool.{Bool, true, false, ◌||◌, or-true, or-false, or_comm, true≢false}
-use Prim.Native.Nat.{ℕ, ◌+◌, ◌-◌, ◌*◌, ◌≤◌, ◌<◌}
-use native.Mathlib.Omega.{arith}
-use lib.ListN.{length, get_or, set, length-set, get_or-eq_default}
-use lib.Seq.{get_or-set_same, get_or-set_other}
-use Rattle.std.specs.Prelude.{if◌then◌else◌}
+use Rattle.std.proofs.Common.{◌≡◌, refl, sym, ap, ◌∙◌, ◌≢◌, ⊎_elim, List, ◌++◌, length, get_or, set, take, drop, Bool, true, false, ◌||◌, true≢false, if◌then◌else◌, ℕ, ◌+◌, ◌-◌, ◌*◌, ◌≤◌, ◌<◌, arith, length-set, length-append, length-drop, length-take-le, get_or-take, get_or-drop, get_or-set_same, get_or-set_other}
+use mathlib.Core.Bool.{or-true, or-false, or_comm}
+use lib.ListN.{get_or-eq_default}
+use Rattle.std.proofs.lemmas.List.{get_or_append_left, get_or-append_right}
 use Rattle.dots.specs.Dots.{dot_at, change, within}
 use Rattle.dots.proofs.Laws.{below, length-tab, get_or-tab, tab-ext, byte_of, dot-of, change-ext, Place, before, inside, past, place, within-yes, within_low, within-high, within-true, within-then}
 use Rattle.moves.specs.Parts.{over}
@@ -75,6 +70,48 @@ pub over-down : (i end : ℕ) (F : ℕ → ℕ) (l : List ℕ) → i < end → e
 over-down i end F l h r eb ev em =
     em ∙ rw (ev, eb)
     (over-step _ _ F l i (omega arith) (λ j. within-then i (i + 1) end j (omega arith) (omega arith) ∙ or_comm (within i (i + 1) j) (within (i + 1) end j)))
+
+-- ---- bytes of s from byte e on, pasted over those of l from lo to hi: ys is what the part of l holds then
+
+pub over-part : (lo hi e : ℕ) (s l : List ℕ) {n : ℕ} {ys : List ℕ} → lo ≤ hi → hi ≤ length l → n ≡ hi - lo → e + n ≤ length s → ys ≡ take n (drop e s)
+    → take lo l ++ (ys ++ drop (hi - lo) (drop lo l)) ≡ over (within lo hi) (λ j. get_or s (e + (j - lo)) 0) l
+over-part lo hi e s l {n} {ys} h r en q ey =
+    over-ext (within lo hi) _ l m (omega (arith, length-append (take lo l) rest, length-append ys after, length-drop (hi - lo) (drop lo l), tail, head, own)) (λ j b. at j (place lo hi j))
+  where
+    after : List ℕ
+    after = drop (hi - lo) (drop lo l)
+
+    rest : List ℕ
+    rest = ys ++ after
+
+    m : List ℕ
+    m = take lo l ++ rest
+
+    head : length (take lo l) ≡ lo
+    head = length-take-le lo l (omega arith)
+
+    tail : length (drop lo l) ≡ length l - lo
+    tail = length-drop lo l
+
+    own : length ys ≡ hi - lo
+    own = ap length ey ∙ length-take-le n (drop e s) (omega (arith, length-drop e s)) ∙ en
+
+    at : (j : ℕ) → Place lo hi j → get_or m j 0 ≡ (if within lo hi j then get_or s (e + (j - lo)) 0 else get_or l j 0)
+    at j (before u) = rw (within_low lo hi j u) (get_or_append_left (take lo l) rest 0 j (omega (arith, head)) ∙ get_or-take lo l j 0 u)
+    at j (inside u v) =
+        rw (within-yes lo hi j u v)
+        (get_or-append_right (take lo l) rest lo j 0 head u
+        ∙ get_or_append_left ys after 0 (j - lo) (omega (arith, own))
+        ∙ ap (λ (x : List ℕ). get_or x (j - lo) 0) ey
+        ∙ get_or-take n (drop e s) (j - lo) 0 (omega arith)
+        ∙ get_or-drop e s (j - lo) 0)
+    at j (past u v) =
+        rw (within-high lo hi j v)
+        (get_or-append_right (take lo l) rest lo j 0 head u
+        ∙ get_or-append_right ys after (hi - lo) (j - lo) 0 own (omega arith)
+        ∙ get_or-drop (hi - lo) (drop lo l) (j - lo - (hi - lo)) 0
+        ∙ get_or-drop lo l (hi - lo + (j - lo - (hi - lo))) 0
+        ∙ ap (λ (k : ℕ). get_or l k 0) (omega arith))
 
 -- ---- the one place where bytes meet dots: the dots from lo to hi are those of s from dot e on
 

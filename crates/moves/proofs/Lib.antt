@@ -5,5 +5,4 @@ mod Runs
 mod Rows
 mod Pieces
 mod Rects
-mod Strips
 mod Unique

@@ -1,13 +1,6 @@
 -- A rectangle of a picture that grows by a dot, by a row and by columns, to the whole picture. Assumes nothing.
-use mathlib.Core.Path.{◌≡◌, refl, sym, ◌∙◌}
-use mathlib.Core.List.{List}
-use mathlib.Core.Bool.{Bool, true, false, ◌||◌, and-or_distrib_left, and-or_distrib_right}
-use Prim.Native.Nat.{ℕ, zero, suc, ◌+◌, ◌*◌, ◌/◌, ◌%◌, ◌≤◌, ◌<◌}
-use native.Mathlib.Nat.{div-add-mod', mod-lt, add-mul, mul-zero, mul-le-mul_right, div-lt_iff_lt-mul}
-use native.Mathlib.Omega.{arith}
-use lib.ListN.{length}
-use lib.Dec.{eqb}
-use borrow.Author.Tests.{eqb-true, eq-eqb}
+use Rattle.std.proofs.Common.{◌≡◌, refl, sym, ◌∙◌, List, Bool, true, false, ◌||◌, ℕ, zero, suc, ◌+◌, ◌*◌, ◌/◌, ◌%◌, ◌≤◌, ◌<◌, div-add-mod', mod-lt, add-mul, mul-zero, mul-le-mul_right, div-lt_iff_lt-mul, arith, length, eqb, eqb-true, eq-eqb}
+use mathlib.Core.Bool.{and-or_distrib_left, and-or_distrib_right}
 use Rattle.colour.specs.declared.RGBA.{RGBA}
 use Rattle.colour.proofs.Tests.{and_both}
 use Rattle.dots.specs.Dots.{dot_at, set_dot, change, within}

@@ -1,14 +1,8 @@
--- A row widened in three steps, and the loop that widens the rows from the last to the first. Assumes nothing.
-use mathlib.Core.Path.{◌≡◌, refl, ap, ◌∙◌}
-use mathlib.Core.List.{List}
-use Prim.Native.Nat.{ℕ, ◌+◌, ◌-◌, ◌*◌, ◌/◌, ◌%◌, ◌≤◌, ◌<◌}
-use native.Mathlib.Nat.{add-mul, mul_comm, zero-mul, mul-le-mul_left, mul-le-mul_right}
-use native.Mathlib.Omega.{arith}
-use lib.ListN.{length}
-use Rattle.std.specs.Prelude.{if◌then◌else◌}
+-- A row widened in three steps, and the rows from the last to the first. Assumes nothing.
+use Rattle.std.proofs.Common.{◌≡◌, ap, ◌∙◌, List, length, if◌then◌else◌, ℕ, ◌+◌, ◌-◌, ◌*◌, ◌/◌, ◌%◌, ◌≤◌, ◌<◌, arith, add-mul, mul_comm, zero-mul, mul-le-mul_left, mul-le-mul_right}
 use Rattle.colour.specs.declared.RGBA.{RGBA}
 use Rattle.dots.specs.Dots.{dot_at, change, within}
-use Rattle.dots.proofs.Laws.{length-change, change-picked, change-kept, change-past, change-ext, run_none, run-back, Place, before, inside, past, place, within-yes, within_low, within-high}
+use Rattle.dots.proofs.Laws.{length-change, change-picked, change-kept, change-past, change-ext, run-back, Place, before, inside, past, place, within-yes, within_low, within-high}
 use Rattle.dots.proofs.Blocks.{in_row}
 use Rattle.moves.specs.Moves.{padded_at, padded_on}
 
@@ -91,43 +85,31 @@ padded-from w left r c paper b l h = by (place left (left + w) c)
 
 -- ---- the rows from r on are widened
 
+abbrev pub padded_dot : ℕ → ℕ → ℕ → RGBA → List ℕ → ℕ → RGBA → RGBA
+padded_dot w wide left paper l i _ = padded_at w left paper l (i % wide) (i / wide)
+
 module _ (w h wide left : ℕ) (paper : RGBA) (l : List ℕ) where
-  abbrev dot : ℕ → RGBA → RGBA
-  dot i _ = padded_at w left paper l (i % wide) (i / wide)
+  pub back-room : {r : ℕ} → 0 < r → r ≤ h → wide * h * 4 ≤ length l → ((r - 1) * wide + wide) * 4 ≤ length l
+  back-room {r} u v room =
+      omega (arith, add-mul (r - 1) 1 wide, mul-le-mul_right {m = r - 1 + 1} {n = h} wide (omega arith), mul_comm wide h)
 
-  pub record Back (r : ℕ) (b : List ℕ) : Type 0 where
-    pub upto : r ≤ h
-    pub same : length b ≡ length l
-    pub sofar : b ≡ change (within (r * wide) (h * wide)) dot l
-
-  pub back_start : Back h l
-  back_start = record { upto = omega arith; same = refl; sofar = run_none (h * wide) dot l }
-
-  pub back-room : {r : ℕ} {b : List ℕ} → Back r b → 0 < r → wide * h * 4 ≤ length l → ((r - 1) * wide + wide) * 4 ≤ length b
-  back-room {r} o u room =
-      omega (arith, o.same, add-mul (r - 1) 1 wide, mul-le-mul_right {m = r - 1 + 1} {n = h} wide (omega (arith, o.upto)), mul_comm wide h)
-
-  pub back-next : {r : ℕ} {b m : List ℕ} → Back r b → 0 < r → left + w ≤ wide
-      → m ≡ change (within ((r - 1) * wide) ((r - 1) * wide + wide)) (λ i _. padded_at w left paper b (i - (r - 1) * wide) (r - 1)) b → Back (r - 1) m
-  back-next {r} {b} o u fits em =
+  pub back-next : {r : ℕ} {b m : List ℕ} → 0 < r → r ≤ h → left + w ≤ wide → b ≡ change (within (r * wide) (h * wide)) (padded_dot w wide left paper l) l
+      → m ≡ change (within ((r - 1) * wide) ((r - 1) * wide + wide)) (λ i _. padded_at w left paper b (i - (r - 1) * wide) (r - 1)) b
+      → m ≡ change (within ((r - 1) * wide) (h * wide)) (padded_dot w wide left paper l) l
+  back-next {r} {b} u v fits eb em =
       let k = r - 1 in
       let e : k + 1 ≡ r = omega arith in
       let next : k * wide + wide ≡ r * wide = omega (arith, add-mul k 1 wide, ap (λ (n : ℕ). n * wide) e) in
-      let high = mul-le-mul_right {m = r} {n = h} wide o.upto in
+      let high = mul-le-mul_right {m = r} {n = h} wide v in
       let wider = narrower w wide left k fits in
-      record {
-        upto = omega (arith, o.upto);
-        same = ap length em ∙ length-change _ _ b ∙ o.same;
-        sofar =
-            run-back (k * wide) (k * wide + wide) (h * wide) _ dot l (omega arith) (omega arith)
-            (λ i a z d.
-            let p = in_row k wide i a z in
-            rw (p.0, p.1)
-            (padded-from w left k (i - k * wide) paper b l
-            (λ j y. ap (λ (x : List ℕ). dot_at x j) o.sofar ∙ change-kept _ dot l j (within_low (r * wide) (h * wide) j (omega arith)))))
-            (rw next o.sofar) em;
-      }
+      run-back (k * wide) (r * wide) (h * wide) _ (padded_dot w wide left paper l) l (omega arith) (omega arith)
+      (λ i a z d.
+      let p = in_row k wide i a (omega (arith, next)) in
+      rw (p.0, p.1)
+      (padded-from w left k (i - k * wide) paper b l
+      (λ j y. ap (λ (x : List ℕ). dot_at x j) eb ∙ change-kept _ (padded_dot w wide left paper l) l j (within_low (r * wide) (h * wide) j (omega arith)))))
+      eb (rw next at em)
 
-  pub back_end : {r : ℕ} {b : List ℕ} → Back r b → r ≤ 0 → b ≡ padded_on w h wide left paper l
+  pub back_end : {b : List ℕ} → b ≡ change (within (0 * wide) (h * wide)) (padded_dot w wide left paper l) l → b ≡ padded_on w h wide left paper l
   unfolding padded_on
-  back_end {r} o u = let e : r ≡ 0 = omega arith in o.sofar ∙ rw (e, zero-mul, mul_comm h wide)
+  back_end e = e ∙ rw (zero-mul, mul_comm h wide)

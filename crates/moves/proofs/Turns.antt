@@ -1,14 +1,8 @@
 -- Where the dots of a turned picture come from, and the loop of a half turn. Assumes nothing.
-use mathlib.Core.Path.{◌≡◌, refl, sym, ap, ◌∙◌}
-use mathlib.Core.List.{List}
-use mathlib.Core.Bool.{Bool, true, false, not}
-use Prim.Native.Nat.{ℕ, ◌+◌, ◌-◌, ◌*◌, ◌/◌, ◌%◌, ◌≤◌, ◌<◌}
-use native.Mathlib.Nat.{add-mul, mul_comm, mul-le-mul_right, mod-lt, div-add-mod', div-lt_iff_lt-mul}
-use native.Mathlib.Omega.{arith}
-use lib.ListN.{length}
+use Rattle.std.proofs.Common.{◌≡◌, refl, sym, ap, ◌∙◌, List, Bool, true, false, not, ℕ, ◌+◌, ◌-◌, ◌*◌, ◌/◌, ◌%◌, ◌≤◌, ◌<◌, add-mul, mul_comm, mul-le-mul_right, mod-lt, div-add-mod', div-lt_iff_lt-mul, arith}
 use Rattle.colour.specs.declared.RGBA.{RGBA}
-use Rattle.dots.specs.Dots.{dot_at, set_dot, change, within}
-use Rattle.dots.proofs.Laws.{length-change, change-by, run_none, run-turn, within-true}
+use Rattle.dots.specs.Dots.{dot_at, change, within}
+use Rattle.dots.proofs.Laws.{change-by, within-true}
 use Rattle.dots.proofs.Blocks.{in_row}
 use Rattle.moves.specs.declared.turned.Turn.{Turn}
 use Rattle.moves.specs.declared.turned.Turn.TheVariants.{Quarter, Half, ThreeQuarters}
@@ -84,27 +78,10 @@ unfolding quarter along turned_wide column_from row_from
 quarter-dot w h false src c r a ex ey d = rw (ex, ey) (dot-turned Quarter w h src r a d)
 quarter-dot w h true src c r a ex ey d = rw (ex, ey) (dot-turned ThreeQuarters w h src r a d)
 
--- ---- a half turn: n dots, the last first, of which i are written
+-- ---- a half turn: n dots, the last first
 
-module _ (src : List ℕ) (n : ℕ) (l : List ℕ) where
-  abbrev backwards : ℕ → RGBA → RGBA
-  backwards i _ = dot_at src (n - 1 - i)
-
-  pub record Back (i : ℕ) (b : List ℕ) : Type 0 where
-    pub upto : i ≤ n
-    pub same : length b ≡ length l
-    pub sofar : b ≡ change (within 0 i) backwards l
-
-  pub back_start : Back 0 l
-  back_start = record { upto = omega arith; same = refl; sofar = run_none 0 backwards l }
-
-  pub back-next : {i : ℕ} {b m : List ℕ} {d : RGBA} → Back i b → i < n → n * 4 ≤ length l → d ≡ dot_at src (n - 1 - i) → m ≡ set_dot b i d → Back (i + 1) m
-  back-next {i} {m = m} o h room ed em =
-      let next : m ≡ change (within 0 (i + 1)) backwards l = run-turn 0 i backwards l (omega arith) (omega arith) o.sofar ed em in
-      record { upto = omega arith; same = ap length next ∙ length-change _ backwards l; sofar = next }
-
-  pub back_end : {i : ℕ} {b : List ℕ} → Back i b → n ≤ i → b ≡ change (within 0 n) backwards l
-  back_end {i} o h = let e : i ≡ n = omega (arith, o.upto) in rw e at o.sofar
+abbrev pub backwards : List ℕ → ℕ → ℕ → RGBA → RGBA
+backwards src n i _ = dot_at src (n - 1 - i)
 
 half_place : (w h q r : ℕ) → q < h → r < w → (h - 1 - q) * w + (w - 1 - r) ≡ w * h - 1 - (q * w + r)
 half_place w h q r a b =

@@ -3,19 +3,12 @@ ghost use Rattle.std.specs.Prelude.{◌≡◌, ◌+◌, ◌-◌, ◌*◌, ◌≤
 ghost use Rattle.dots.specs.Dots.{dot_at, change, within};
 ghost use Rattle.moves.specs.Moves.{copied_to};
 
-// n dots of src from dot `from` on, written to out from dot `to` on. Bytes in a row become vectors.
+// n dots of src from dot `from` on, written to out from dot `to` on.
 pub fn copy_run(src: &[u8], from: usize, out: &mut [u8], to: usize, n: usize)
     requires { ((from + n) * 4 ≤ length src.now) × ((to + n) * 4 ≤ length out.old) }
     ensures { out.new ≡ change (within to (to + n)) (λ i _. dot_at src.now (from + (i - to))) out.old }
 {
-    let first = from * 4;
-    let at = to * 4;
-    let end = n * 4;
-    let mut i = 0;
-    while i < end {
-        out[at + i] = src[first + i];
-        i += 1;
-    }
+    out[to * 4..(to + n) * 4].copy_from_slice(&src[from * 4..(from + n) * 4]);
 }
 
 pub fn copy_dots(src: &[u8], n: usize, out: &mut [u8])

@@ -13,12 +13,11 @@ fn move_on(buf: &mut [u8], n: usize, by: usize)
     requires { (by + n) * 4 ≤ length buf.old }
     ensures { buf.new ≡ change (within by (by + n)) (λ i _. dot_at buf.old (i - by)) buf.old }
 {
-    let mut i = n;
-    while i >= BLOCK {
-        i -= BLOCK;
-        move_block(buf, i, by);
+    let rest = n % BLOCK;
+    for i in (0..n / BLOCK).rev() {
+        move_block(buf, rest + i * BLOCK, by);
     }
-    move_run(buf, 0, by, i);
+    move_run(buf, 0, by, rest);
 }
 
 pub fn move_down(buf: &mut [u8], n: usize, by: usize, paper: RGBA)

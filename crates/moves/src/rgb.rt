@@ -8,13 +8,11 @@ pub fn rgb_bytes(src: &[u8], n: usize, out: &mut [u8])
     requires { (n * 4 ≤ length src.now) × (n * 3 ≤ length out.old) }
     ensures { out.new ≡ rgb_to n src.now out.old }
 {
-    let mut k = 0;
-    while k < n {
+    for k in 0..n {
         let d = get_dot(src, k);
         let at = k * 3;
         out[at] = d.r;
         out[at + 1] = d.g;
         out[at + 2] = d.b;
-        k += 1;
     }
 }

@@ -12,9 +12,7 @@ pub fn move_run(buf: &mut [u8], at: usize, by: usize, count: usize)
 {
     let from = at * 4;
     let to = (at + by) * 4;
-    let mut i = count * 4;
-    while i > 0 {
-        i -= 1;
+    for i in (0..count * 4).rev() {
         buf[to + i] = buf[from + i];
     }
 }

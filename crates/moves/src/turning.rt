@@ -12,23 +12,18 @@ fn turn_half(src: &[u8], n: usize, out: &mut [u8])
     requires { (n * 4 ≤ length src.now) × (n * 4 ≤ length out.old) }
     ensures { out.new ≡ change (within 0 n) (λ i _. dot_at src.now (n - 1 - i)) out.old }
 {
-    let mut i = 0;
-    while i < n {
-        let from = n - 1 - i;
-        let d = load_dot(src, from);
+    for i in 0..n {
+        let d = load_dot(src, n - 1 - i);
         store_dot(out, i, d);
-        i += 1;
     }
 }
 
+#[tactic(auto, unfolding(crate::specs::Steps::along))]
 fn along(n: usize, i: usize, back: bool) -> usize
     requires { i < n }
     ensures { result ≡ along n i back }
 {
-    if back {
-        return n - 1 - i;
-    }
-    i
+    if back { n - 1 - i } else { i }
 }
 
 // `columns` dots of row r, from column c on, of a quarter turn to the right or to the left: they stood
@@ -47,13 +42,10 @@ fn turn_row(
     ensures { out.new ≡ change (in_rect h c (c + columns) r (r + 1)) (turned_dot (quarter left) w h src.now) out.old }
 {
     let x = along(w, r, left);
-    let end = c + columns;
-    let mut k = c;
-    while k < end {
+    for k in c..c + columns {
         let y = along(h, k, !left);
         let d = get_dot(src, y * w + x);
         set_dot(out, r * h + k, d);
-        k += 1;
     }
 }
 
@@ -62,10 +54,8 @@ fn turn_rows(src: &[u8], w: usize, h: usize, left: bool, c: usize, columns: usiz
     requires { (w * h * 4 ≤ length src.now) × (w * h * 4 ≤ length out.old) × (c + columns ≤ h) }
     ensures { out.new ≡ change (in_rect h c (c + columns) 0 w) (turned_dot (quarter left) w h src.now) out.old }
 {
-    let mut r = 0;
-    while r < w {
+    for r in 0..w {
         turn_row(src, w, h, left, r, c, columns, out);
-        r += 1;
     }
 }
 
@@ -76,12 +66,11 @@ fn turn_quarter(src: &[u8], w: usize, h: usize, left: bool, out: &mut [u8])
     requires { (w * h * 4 ≤ length src.now) × (w * h * 4 ≤ length out.old) }
     ensures { out.new ≡ turned_on (quarter left) w h src.now out.old }
 {
-    let mut c = 0;
-    while h - c >= STRIP {
-        turn_rows(src, w, h, left, c, STRIP, out);
-        c += STRIP;
+    let strips = h / STRIP;
+    for s in 0..strips {
+        turn_rows(src, w, h, left, s * STRIP, STRIP, out);
     }
-    turn_rows(src, w, h, left, c, h - c, out);
+    turn_rows(src, w, h, left, strips * STRIP, h % STRIP, out);
 }
 
 // Each quarter turn by itself, so that the compiler makes a loop for it that does not ask which it is.

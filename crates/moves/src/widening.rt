@@ -38,9 +38,7 @@ pub fn widen(buf: &mut [u8], w: usize, h: usize, wide: usize, left: usize, paper
     requires { (left + w ≤ wide) × (wide * h * 4 ≤ length buf.old) }
     ensures { buf.new ≡ padded_on w h wide left paper buf.old }
 {
-    let mut r = h;
-    while r > 0 {
-        r -= 1;
+    for r in (0..h).rev() {
         widen_row(buf, w, wide, left, paper, r);
     }
 }

@@ -11,7 +11,7 @@ ghost use Rattle.runs.specs.Run.{run_picture};
 ghost use Rattle.thermal_image.specs.Canvas.{papered};
 ghost use Rattle.runs.specs.Steps.{placed_on, stepped_on, Room};
 
-use areas::flip_area;
+use areas::{Area, flip_area};
 use colour::RGBA;
 use dots::fill_run;
 use entries::{Entry, draw_entry};
@@ -86,14 +86,14 @@ fn obey(buf: &mut [u8], width: u32, height: u32, paper: RGBA, c: Command, s: &[u
         }
         Command::Flip { x, y, w, h } => {
             let tall = grow(buf, width, height, y + h, paper);
-            flip_area(
-                buf,
-                width as usize,
-                x as usize,
-                y as usize,
-                w as usize,
-                h as usize,
-            );
+            let area = Area {
+                wide: width as usize,
+                x: x as usize,
+                y: y as usize,
+                w: w as usize,
+                h: h as usize,
+            };
+            flip_area(buf, area);
             tall
         }
     }

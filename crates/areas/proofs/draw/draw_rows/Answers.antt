@@ -1,36 +1,15 @@
-use native.Mathlib.Omega.{arith}
-use mathlib.Core.Path.{refl}
-use Rattle.areas.proofs.Rows.{rows_start, rows-room, rows_next, rows_end}
+use Rattle.std.proofs.Common.{◌≡◌, refl, inr, arith}
+use Rattle.areas.proofs.Laws.{area-none, area-row}
 use Rattle.areas.proofs.draw.draw_rows.Goals as goal
 
 pub loop-j-init : goal.loop-j-init
-loop-j-init c = rows_start _ _ _ _ _ _ _
-
-pub overflow_add-y : goal.overflow_add-y
-overflow_add-y c = omega (arith, rows-room _ _ _ _ _ _ _ c.requires c.loop-j.invariant c.loop-j-test.true)
-
-pub overflow_mul-y : goal.overflow_mul-y
-overflow_mul-y c = omega (arith, rows-room _ _ _ _ _ _ _ c.requires c.loop-j.invariant c.loop-j-test.true)
-
-pub overflow_add-y-in-loop-j : goal.overflow_add-y-in-loop-j
-overflow_add-y-in-loop-j c =
-    omega (arith, rows-room _ _ _ _ _ _ _ c.requires c.loop-j.invariant c.loop-j-test.true)
-
-pub draw_run-requires : goal.draw_run-requires
-draw_run-requires c = (rows-room _ _ _ _ _ _ _ c.requires c.loop-j.invariant c.loop-j-test.true).inside
-
-pub overflow_add-j : goal.overflow_add-j
-overflow_add-j c = omega arith
-
-pub loop-j-smaller : goal.loop-j-smaller
-loop-j-smaller c = omega arith
+loop-j-init g c = area-none _ _ _ _ _ _ _ (inr refl)
 
 pub loop-j-preserved : goal.loop-j-preserved
-loop-j-preserved c =
-    rows_next _ _ _ _ _ _ _ c.requires _ c.loop-j.invariant c.loop-j-test.true (λ k u v d. refl) c.draw_run.ensures
-
-pub shape_of-buf : goal.shape_of-buf
-shape_of-buf c = omega arith
+loop-j-preserved g c =
+    area-row _ _ _ _ _ _ _ c.requires.some c.requires.across _ c.start_of.ensures _ (λ k u v d. refl) c.loop-j.invariant c.draw_dots.ensures
 
 pub returns : goal.returns
-returns c = rows_end _ _ _ _ _ _ _ c.loop-j.invariant c.loop-j-test.false
+returns g c =
+    let e : c.loop-j.j ≡ c.args.area.h = omega arith in
+    rw e at c.loop-j.invariant

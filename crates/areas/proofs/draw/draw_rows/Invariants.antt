@@ -1,11 +1,8 @@
 -- `areas::draw::draw_rows` meets its contract. Assumes nothing.
-use Prim.Native.Nat.{◌-◌}
-use Rattle.dots.specs.Dots.{drawn}
-use Rattle.areas.proofs.Rows.{Rows}
+use Rattle.std.proofs.Common.{◌≡◌}
+use Rattle.areas.specs.Areas.{area_on}
 use Rattle.areas.proofs.draw.draw_rows.Given as goal
 
 abbrev pub invariant-loop-j : goal.invariant-loop-j
-invariant-loop-j l = Rows l.wide l.x l.y l.w l.h (λ _ _ d. drawn l.multiply l.c d) l.initial.buf l.j l.buf
-
-abbrev pub decreases-loop-j : goal.decreases-loop-j
-decreases-loop-j l = l.h - l.j
+invariant-loop-j g l =
+    l.buf ≡ area_on l.area.wide l.area.x l.area.y l.area.w l.j (λ _ _ d. g.B.Brush.dot l.brush d) l.initial.buf

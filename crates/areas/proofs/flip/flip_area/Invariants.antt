@@ -1,10 +1,6 @@
--- `areas::flip::flip_area` meets its contract. Assumes nothing.
-use Prim.Native.Nat.{◌-◌}
+-- `areas::flip_area` meets its contract. Assumes nothing.
 use Rattle.areas.proofs.Flips.{Flip}
 use Rattle.areas.proofs.flip.flip_area.Given as goal
 
-abbrev pub invariant-loop-top : goal.invariant-loop-top
-invariant-loop-top l = Flip l.wide l.x l.y l.w l.h l.initial.buf l.top l.bottom l.buf
-
-abbrev pub decreases-loop-top : goal.decreases-loop-top
-decreases-loop-top l = l.bottom - l.top
+abbrev pub invariant-loop-j : goal.invariant-loop-j
+invariant-loop-j l = Flip l.area.wide l.area.x l.area.y l.area.w l.area.h l.initial.buf l.j l.buf

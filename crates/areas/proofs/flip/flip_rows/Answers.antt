@@ -1,27 +1,18 @@
-use borrow.Author.Rules.{rules}
-use native.Mathlib.Omega.{arith}
-use Rattle.areas.proofs.Flips.{pair-start, pair-apart, pair-next, pair_end}
+use Rattle.std.proofs.Common.{◌≡◌, ◌+◌, ◌*◌, ◌/◌, arith}
+use Rattle.areas.proofs.Flips.{pair-start, pair-next, pair_end}
 use Rattle.areas.proofs.flip.flip_rows.Goals as goal
 
-pub loop-i-init : goal.loop-i-init
-loop-i-init c = pair-start _ _ _ _
+pub loop-p-init : goal.loop-p-init
+loop-p-init c = pair-start _ _ _ _
 
-pub flip_some-requires : goal.flip_some-requires
-flip_some-requires c =
+pub loop-p-preserved : goal.loop-p-preserved
+loop-p-preserved c =
     let p = c.requires in
-    (search rules, pair-apart _ _ _ _ _ p.0 (omega arith), search rules, search rules)
-
-pub loop-i-preserved : goal.loop-i-preserved
-loop-i-preserved c =
-    let p = c.requires in
-    pair-next _ _ _ _ p.0 p.1 _ c.loop-i.invariant (omega arith) c.flip_some.ensures
-
-pub flip_some-requires-2 : goal.flip_some-requires-2
-flip_some-requires-2 c =
-    let p = c.requires in
-    (search rules, pair-apart _ _ _ _ _ p.0 (omega arith), search rules, search rules)
+    let e : (c.loop-p.p + 1) * 256 ≡ c.loop-p.p * 256 + 256 = omega arith in
+    rw e (pair-next _ _ _ _ p.0 p.1 _ _ c.loop-p.invariant (omega arith) c.flip_some.ensures)
 
 pub returns : goal.returns
 returns c =
     let p = c.requires in
-    pair_end _ _ _ _ (pair-next _ _ _ _ p.0 p.1 _ c.loop-i.invariant (omega arith) c.flip_some-2.ensures) (omega arith)
+    let e : c.loop-p.p * 256 ≡ c.args.w / 256 * 256 = omega arith in
+    pair_end _ _ _ _ _ (pair-next _ _ _ _ p.0 p.1 _ _ (rw e at c.loop-p.invariant) (omega arith) c.flip_some-2.ensures) (omega arith)

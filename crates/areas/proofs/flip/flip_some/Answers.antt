@@ -1,5 +1,5 @@
 -- `areas::flip::flip_some` meets its contract. Assumes nothing.
-use borrow.Author.Rules.{rules}
+use Rattle.std.proofs.Common.{rules}
 use Rattle.areas.proofs.Flips.{piece-one, piece-two}
 use Rattle.areas.proofs.flip.flip_some.Goals as goal
 

@@ -2,10 +2,10 @@
 use Rattle.dots.specs.Tables.{covers}
 use Rattle.dots.proofs.draw.covers.Goals as goal
 
-pub returns-then-multiply : goal.returns-then-multiply
+pub returns-then-not-multiply : goal.returns-then-not-multiply
 unfolding covers
-returns-then-multiply c = rw c.if-multiply.true
+returns-then-not-multiply c = rw c.if-not-multiply.true
 
-pub returns : goal.returns
+pub returns-else-not-multiply : goal.returns-else-not-multiply
 unfolding covers
-returns c = rw c.if-multiply.false
+returns-else-not-multiply c = rw c.if-not-multiply.false

@@ -6,6 +6,6 @@ pub returns-then-multiply : goal.returns-then-multiply
 unfolding needs_tables
 returns-then-multiply c = rw c.if-multiply.true
 
-pub returns : goal.returns
+pub returns-else-multiply : goal.returns-else-multiply
 unfolding needs_tables
-returns c = rw c.if-multiply.false
+returns-else-multiply c = rw c.if-multiply.false

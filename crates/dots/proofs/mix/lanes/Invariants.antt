@@ -1,13 +1,8 @@
--- `dots::lanes` meets its contract. The loop's invariant: the places below `j` are filled. Assumes nothing.
-use mathlib.Core.Path.{◌≡◌}
-use Prim.Native.Nat.{ℕ, ◌-◌, ◌%◌, ◌≤◌, ◌<◌}
-use lib.ListN.{length, get_or}
+-- `dots::lanes` meets its contract. The loop's invariant: the places below 4 · `i` are filled. Assumes nothing.
+use Rattle.std.proofs.Common.{◌≡◌, ◌*◌, ◌%◌, ◌<◌, ℕ, length, get_or}
 use Rattle.colour.specs.Colour.{rgba}
 use Rattle.dots.specs.Dots.{chan}
 use Rattle.dots.proofs.mix.lanes.Given as goal
 
-abbrev pub invariant-loop-j : goal.invariant-loop-j
-invariant-loop-j l = (l.j ≤ 64) × (l.j % 4 ≡ 0) × (length l.p ≡ 64) × ((i : ℕ) → i < l.j → get_or l.p i 0 ≡ chan (rgba l.x l.y l.z l.w) (i % 4))
-
-abbrev pub decreases-loop-j : goal.decreases-loop-j
-decreases-loop-j l = 64 - l.j
+abbrev pub invariant-loop-i : goal.invariant-loop-i
+invariant-loop-i l = (length l.p ≡ 64) × ((j : ℕ) → j < l.i * 4 → get_or l.p j 0 ≡ chan (rgba l.x l.y l.z l.w) (j % 4))

@@ -1,5 +1,5 @@
 -- `moves::copy_dots` meets its contract. Assumes nothing.
-use mathlib.Core.Path.{◌∙◌}
+use Rattle.std.proofs.Common.{◌∙◌}
 use Rattle.moves.proofs.Runs.{copied-first}
 use Rattle.moves.proofs.copy.copy_dots.Goals as goal
 

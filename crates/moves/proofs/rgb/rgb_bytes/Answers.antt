@@ -1,20 +1,17 @@
-use native.Mathlib.Omega.{arith}
-use lib.ListN.{length-set}
-use Rattle.moves.proofs.Runs.{tripled-start, tripled-next, tripled-end}
+use Rattle.std.proofs.Common.{◌≡◌, arith}
+use Rattle.moves.specs.Moves.{rgb_to}
+use Rattle.moves.proofs.Bytes.{over-empty}
+use Rattle.moves.proofs.Runs.{tripled-next}
 use Rattle.moves.proofs.rgb.rgb_bytes.Goals as goal
 
 pub loop-k-init : goal.loop-k-init
-loop-k-init c = tripled-start _ _ _
-
-pub bounds-out-at-in-loop-k : goal.bounds-out-at-in-loop-k
-bounds-out-at-in-loop-k c = simp length-set (omega arith)
-
-pub bounds-out-at-in-loop-k-2 : goal.bounds-out-at-in-loop-k-2
-bounds-out-at-in-loop-k-2 c = simp length-set (omega arith)
+loop-k-init c = over-empty 0 _ _
 
 pub loop-k-preserved : goal.loop-k-preserved
-loop-k-preserved c =
-    tripled-next _ _ _ c.loop-k.invariant c.loop-k-test.true c.requires.1 c.get_dot-d.ensures
+loop-k-preserved c = tripled-next _ _ _ (omega arith) c.loop-k.invariant c.get_dot-d.ensures
 
 pub returns : goal.returns
-returns c = tripled-end _ _ _ c.loop-k.invariant c.loop-k-test.false
+unfolding rgb_to
+returns c =
+    let e : c.loop-k.k ≡ c.args.n = omega arith in
+    rw e at c.loop-k.invariant

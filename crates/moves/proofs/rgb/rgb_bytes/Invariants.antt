@@ -1,10 +1,9 @@
 -- `moves::rgb_bytes` meets its contract. Assumes nothing.
-use Prim.Native.Nat.{◌-◌}
-use Rattle.moves.proofs.Runs.{Tripled}
+use Rattle.std.proofs.Common.{◌≡◌, ◌*◌}
+use Rattle.dots.specs.Dots.{within}
+use Rattle.moves.specs.Parts.{over}
+use Rattle.moves.proofs.Runs.{rgb_byte}
 use Rattle.moves.proofs.rgb.rgb_bytes.Given as goal
 
 abbrev pub invariant-loop-k : goal.invariant-loop-k
-invariant-loop-k l = Tripled l.n l.src l.initial.out l.k l.out
-
-abbrev pub decreases-loop-k : goal.decreases-loop-k
-decreases-loop-k l = l.n - l.k
+invariant-loop-k l = l.out ≡ over (within 0 (l.k * 3)) (rgb_byte l.src) l.initial.out

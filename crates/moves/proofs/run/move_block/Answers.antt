@@ -1,5 +1,5 @@
 -- `moves::run::move_block` meets its contract. Assumes nothing.
-use borrow.Author.Rules.{rules}
+use Rattle.std.proofs.Common.{rules}
 use Rattle.moves.proofs.Pieces.{moved-by-way}
 use Rattle.moves.proofs.run.move_block.Goals as goal
 

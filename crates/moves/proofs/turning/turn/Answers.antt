@@ -1,5 +1,5 @@
 -- `moves::turn` meets its contract. Assumes nothing.
-use mathlib.Core.Path.{◌∙◌}
+use Rattle.std.proofs.Common.{◌∙◌}
 use Rattle.moves.specs.Steps.{quarter}
 use Rattle.moves.proofs.Turns.{half-turned}
 use Rattle.moves.proofs.turning.turn.Goals as goal

@@ -1,16 +1,20 @@
-use native.Mathlib.Omega.{arith}
+use Rattle.std.proofs.Common.{◌≡◌, ◌∙◌, ◌+◌, ◌*◌, ◌/◌, ◌%◌, arith}
 use Rattle.moves.specs.Moves.{turned_on}
-use Rattle.moves.proofs.Strips.{strips-start, strips-next, strips-end}
+use Rattle.moves.proofs.Rects.{no-columns, columns-more, all-columns}
 use Rattle.moves.proofs.turning.turn_quarter.Goals as goal
 
-pub loop-c-init : goal.loop-c-init
-loop-c-init c = strips-start _ _ _ _
+pub loop-s-init : goal.loop-s-init
+loop-s-init c = no-columns _ _ _ _ _ _
 
-pub loop-c-preserved : goal.loop-c-preserved
-loop-c-preserved c =
-    strips-next _ _ _ _ _ c.loop-c.invariant (omega arith) c.turn_rows.ensures
+pub loop-s-preserved : goal.loop-s-preserved
+loop-s-preserved c =
+    let e : (c.loop-s.s + 1) * 16 ≡ c.loop-s.s * 16 + 16 = omega arith in
+    rw e (columns-more _ _ _ _ _ _ (omega arith) c.loop-s.invariant c.turn_rows.ensures)
 
 pub returns : goal.returns
 unfolding turned_on
 returns c =
-    strips-end _ _ _ _ (strips-next _ _ _ _ _ c.loop-c.invariant (omega arith) c.turn_rows-2.ensures) (omega arith)
+    let e : c.loop-s.s * 16 ≡ c.args.h / 16 * 16 = omega arith in
+    let end : c.args.h / 16 * 16 + c.args.h % 16 ≡ c.args.h = omega arith in
+    let last = columns-more _ _ _ _ _ _ (omega arith) (rw e at c.loop-s.invariant) c.turn_rows-2.ensures in
+    rw end at last ∙ all-columns _ _ _ _

@@ -1,12 +1,8 @@
-use Rattle.moves.proofs.Strips.{down-start, down-next, down-end}
+use Rattle.moves.proofs.Rects.{no_rows, row_more}
 use Rattle.moves.proofs.turning.turn_rows.Goals as goal
 
 pub loop-r-init : goal.loop-r-init
-loop-r-init c = down-start _ _ _ _ _ _
+loop-r-init c = no_rows _ _ _ _ _ _
 
 pub loop-r-preserved : goal.loop-r-preserved
-loop-r-preserved c =
-    down-next _ _ _ _ _ _ c.loop-r.invariant c.loop-r-test.true c.turn_row.ensures
-
-pub returns : goal.returns
-returns c = down-end _ _ _ _ _ _ c.loop-r.invariant c.loop-r-test.false
+loop-r-preserved c = row_more _ _ _ _ _ _ c.loop-r.invariant c.turn_row.ensures

@@ -1,0 +1,81 @@
+// A row of bits on dots.
+ghost use Rattle.std.specs.Prelude.{◌≡◌, ℕ, ◌+◌, ◌*◌, ◌≤◌, ◌<◌, length};
+ghost use Rattle.numbers.specs.Numbers.{limit};
+ghost use Rattle.colour.specs.declared.RGBA.{RGBA};
+ghost use Rattle.bits.specs.Bits.{Shown, bits_on};
+ghost use Rattle.bits.specs.Steps.{byte_on, bit_on};
+
+use super::bit::bit_at;
+
+// What bits are drawn on dots with.
+pub trait BitBrush {
+    // what it makes of a dot at the alpha of its bit
+    ghost dot: { Self → ℕ → RGBA → RGBA };
+
+    // The first n bits of a byte.
+    fn draw_byte(&self, buf: &mut [u8], at: usize, byte: u8, n: usize)
+        requires { (n ≤ 8) × ((at + n) * 4 ≤ length buf.old) }
+        ensures { buf.new ≡ byte_on (dot self.now) byte at n buf.old };
+
+    // The n dots of a stretched bit.
+    fn draw_bit(&self, buf: &mut [u8], at: usize, bit: u8, n: usize)
+        requires { ((at + n) * 4 ≤ length buf.old) × (bit < 2) }
+        ensures { buf.new ≡ bit_on (dot self.now) bit at n buf.old };
+}
+
+// A row that is not stretched, eight dots at a time.
+fn draw_eights<B: BitBrush>(
+    buf: &mut [u8],
+    at: usize,
+    count: usize,
+    data: &[u8],
+    from: usize,
+    brush: &B,
+)
+    requires { ((at + count) * 4 ≤ length buf.old) × Shown from 1 count (length «data».now) }
+    ensures { buf.new ≡ bits_on (B.dot brush.now) «data».now from 1 at count buf.old }
+{
+    for x in 0..count.div_ceil(8) {
+        let i = x * 8;
+        brush.draw_byte(buf, at + i, data[from + x], (count - i).min(8));
+    }
+}
+
+// A stretched row, bit by bit, so that the dots of a bit are told by one look at it.
+fn draw_stretched<B: BitBrush>(
+    buf: &mut [u8],
+    at: usize,
+    count: usize,
+    data: &[u8],
+    from: usize,
+    fx: usize,
+    brush: &B,
+)
+    requires { ((at + count) * 4 ≤ length buf.old) × (0 < fx) × (count ≤ limit) × Shown from fx count (length «data».now) }
+    ensures { buf.new ≡ bits_on (B.dot brush.now) «data».now from fx at count buf.old }
+{
+    for x in 0..count.div_ceil(fx) {
+        let i = x * fx;
+        let bit = bit_at(data, from, x);
+        brush.draw_bit(buf, at + i, bit, (count - i).min(fx));
+    }
+}
+
+pub fn draw_bits<B: BitBrush>(
+    buf: &mut [u8],
+    at: usize,
+    count: usize,
+    data: &[u8],
+    from: usize,
+    fx: usize,
+    brush: &B,
+)
+    requires { ((at + count) * 4 ≤ length buf.old) × (0 < fx) × (count ≤ limit) × Shown from fx count (length «data».now) }
+    ensures { buf.new ≡ bits_on (B.dot brush.now) «data».now from fx at count buf.old }
+{
+    if fx == 1 {
+        draw_eights(buf, at, count, data, from, brush);
+        return;
+    }
+    draw_stretched(buf, at, count, data, from, fx, brush);
+}
