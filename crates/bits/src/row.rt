@@ -41,7 +41,8 @@ fn draw_eights<B: BitBrush>(
     }
 }
 
-// A stretched row, bit by bit, so that the dots of a bit are told by one look at it.
+// A stretched row, bit by bit, so that the dots of a bit are told by one look at it. Over a range of
+// bits, with their dots worked out from x, the loop takes up to twice as long where fx is 3.
 fn draw_stretched<B: BitBrush>(
     buf: &mut [u8],
     at: usize,
@@ -54,10 +55,14 @@ fn draw_stretched<B: BitBrush>(
     requires { ((at + count) * 4 ≤ length buf.old) × (0 < fx) × (count ≤ limit) × Shown from fx count (length «data».now) }
     ensures { buf.new ≡ bits_on (B.dot brush) «data».now from fx at count buf.old }
 {
-    for x in 0..count.div_ceil(fx) {
-        let i = x * fx;
+    let mut x = 0;
+    let mut i = 0;
+    while i < count {
+        let n = fx.min(count - i);
         let bit = bit_at(data, from, x);
-        brush.draw_bit(buf, at + i, bit, (count - i).min(fx));
+        brush.draw_bit(buf, at + i, bit, n);
+        i += n;
+        x += 1;
     }
 }
 
