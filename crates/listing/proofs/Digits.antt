@@ -1,16 +1,17 @@
 -- Laws of numbers in decimal, and of writing them from the last digit on. Assumes nothing.
-use Prim.Native.Nat.{ℕ, zero, suc, ◌+◌, ◌-◌, ◌/◌, ◌%◌, ◌^◌, ◌≤◌, ◌<◌}
+use Prim.Native.Nat.{ℕ, zero, suc, ◌+◌, ◌*◌, ◌/◌, ◌%◌, ◌^◌, ◌≤◌, ◌<◌}
 use mathlib.Core.Path.{◌≡◌, refl, ap, sym, ◌∙◌}
 use mathlib.Core.Bool.{Bool, true, false}
+use mathlib.Core.Logic.{◌⊎◌, inl, inr, ⊎_elim}
 use mathlib.Core.List.{List, [], ◌∷◌, ◌++◌, append_assoc, append-nil}
 use native.Mathlib.Nat.{div-lt_self, div-lt_iff_lt-mul, pow-suc}
 use native.Mathlib.Numerals.{add-one}
 use native.Mathlib.Omega.{arith}
 use borrow.Author.Tests.{lt-ltb, le-ltb, ltb-true, ltb-false}
 use lib.ListN.{length, set, length-append}
-use lib.Seq.{set_comm, sets, length-sets}
+use lib.Seq.{set_comm, sets}
 use lib.Dec.{ltb}
-use Rattle.std.specs.Prelude.{if◌then◌else◌}
+use Rattle.std.specs.Prelude.{max, if◌then◌else◌}
 use Rattle.listing.specs.Listing.{digit, digits_by, digits}
 
 -- ---- the digits of a number
@@ -63,24 +64,23 @@ few (suc k) n h = go (ltb n 10) refl (few k (n / 10) ((div-lt_iff_lt-mul (omega 
 pub few-digits : (n : ℕ) → n < 2 ^ 64 → length (digits n) ≤ 20
 few-digits n h = few 19 n (omega arith)
 
--- ---- counting them
+-- ---- counting them, by the power of ten below
 
-pub record Counted (n count rest : ℕ) : Type 0 where
-  pub all : count + length (digits rest) ≡ length (digits n) + 1
-  pub small : rest ≤ n
+at-least-one : (k : ℕ) → 1 ≤ 10 ^ k
+at-least-one zero = omega arith
+at-least-one (suc k) = omega (arith, pow-suc 10 k, at-least-one k)
 
-pub counted_start : (n : ℕ) → Counted n 1 n
-counted_start n = record { all = omega arith; small = omega arith }
+-- of a number of at least 1
+count : (k m : ℕ) → 1 ≤ m → 10 ^ k ≤ m → m < 10 * 10 ^ k → k + 1 ≡ length (digits m)
+count zero m a h g = omega (arith, one-digit m (omega (arith, g)))
+count (suc k) m a h g =
+    let p : 10 ^ suc k ≡ 10 ^ k * 10 = pow-suc 10 k in
+    let o = at-least-one k in
+    omega (arith, one_more m (omega arith), count k (m / 10) (omega arith) (omega arith) (omega arith))
 
-module _ (n : ℕ) {count rest : ℕ} (c : Counted n count rest) where
-  pub counted_next : 10 ≤ rest → Counted n (count + 1) (rest / 10)
-  counted_next h = record { all = omega (arith, one_more rest h, c.all); small = omega (arith, tenth rest h, c.small) }
-
-  pub counted-fits : n < 2 ^ 64 → count ≤ 20
-  counted-fits h = omega (arith, some-digits rest, c.all, few-digits n h)
-
-  pub counted-end : rest < 10 → count ≡ length (digits n)
-  counted-end h = omega (arith, one-digit rest h, c.all)
+pub counted : (n k : ℕ) {m : ℕ} → m ≡ max n 1 → 10 ^ k ≤ m → m < 10 * 10 ^ k → k + 1 ≡ length (digits n)
+counted zero k {m} e h g = omega (arith, count k m (omega arith) h g, one-digit m (omega arith), one-digit 0 (omega arith))
+counted (suc n) k {m} e h g = count k m (omega arith) h g ∙ ap (λ j. length (digits j)) (omega arith)
 
 -- ---- writing them, the last one first
 
@@ -92,43 +92,37 @@ earlier l j (a ∷ w) i d h = earlier (set l j a) (suc j) w i d (omega arith) �
 onward : (l : List ℕ) (w : List ℕ) (i d : ℕ) {m : List ℕ} → m ≡ sets l (i + 1) w → set m i d ≡ sets l i (d ∷ w)
 onward l w i d {m} em = ap (λ (k : List ℕ). set k i d) em ∙ earlier l (i + 1) w i d (omega arith) ∙ ap (λ (j : ℕ). sets (set l i d) j w) (add-one i)
 
--- of the digits of n, which go to l from place `at` on, those of `rest` are still to be written; the last of them goes to place i
-pub record Spelled (n at : ℕ) (l : List ℕ) (m : List ℕ) (i rest : ℕ) : Type 0 where
+-- of the digits of n, which go to l from place `at` on, those from place j on are written. They are all, or those of `rest` are still to be written
+pub record Spelled (n at : ℕ) (l : List ℕ) (m : List ℕ) (j rest : ℕ) : Type 0 where
   pub tail : List ℕ
-  pub place : i + 1 ≡ at + length (digits rest)
-  pub all : digits n ≡ digits rest ++ tail
-  pub sofar : m ≡ sets l (i + 1) tail
-  pub small : rest ≤ n
+  pub sofar : m ≡ sets l j tail
+  pub left : ((j ≡ at) × (digits n ≡ tail)) ⊎ ((j ≡ at + length (digits rest)) × (digits n ≡ digits rest ++ tail))
 
 module _ (n at : ℕ) (l : List ℕ) where
-  pub spelled-start : {e : ℕ} → e ≡ at + length (digits n) → Spelled n at l l (e - 1) n
-  spelled-start {e} ee = record { tail = []; place = omega (arith, some-digits n); all = sym (append-nil (digits n)); sofar = refl; small = omega arith }
+  pub spelled-start : {e : ℕ} → e ≡ at + length (digits n) → Spelled n at l l e n
+  spelled-start {e} ee = record { tail = []; sofar = refl; left = inr (ee, sym (append-nil (digits n))) }
 
-  module _ {m : List ℕ} {i rest : ℕ} (s : Spelled n at l m i rest) where
-    pub spelled-next : 10 ≤ rest → Spelled n at l (set m i (digit (rest % 10))) (i - 1) (rest / 10)
-    spelled-next h =
-        let d = digit (rest % 10) in
-        let p : i - 1 + 1 ≡ i = omega (arith, s.place, one_more rest h, some-digits (rest / 10)) in
+  module _ {m : List ℕ} {j rest : ℕ} (s : Spelled n at l m j rest) where
+    pub spelled-next : (i : ℕ) → at ≤ i → i + 1 ≡ j → Spelled n at l (set m i (digit (rest % 10))) i (rest / 10)
+    spelled-next i a e =
         record {
           tail = d ∷ s.tail;
-          place = omega (arith, p, s.place, one_more rest h);
-          all = s.all ∙ ap (λ (w : List ℕ). w ++ s.tail) (digits_more rest h) ∙ append_assoc (digits (rest / 10)) (d ∷ []) s.tail;
-          sofar = onward l s.tail i d s.sofar ∙ ap (λ (j : ℕ). sets l j (d ∷ s.tail)) (sym p);
-          small = omega (arith, tenth rest h, s.small);
+          sofar = onward l s.tail i d (s.sofar ∙ ap (λ k. sets l k s.tail) (sym e));
+          left = ⊎_elim (λ p. absurd (omega (arith, p.0))) (λ p. by (ltb rest 10) refl p.0 p.1) s.left;
         }
+      where
+        d : ℕ
+        d = digit (rest % 10)
 
-    pub spelled-before : 10 ≤ rest → 1 ≤ i
-    spelled-before h = omega (arith, s.place, one_more rest h, some-digits (rest / 10))
+        by : (t : Bool) → ltb rest 10 ≡ t → j ≡ at + length (digits rest) → digits n ≡ digits rest ++ s.tail
+            → ((i ≡ at) × (digits n ≡ d ∷ s.tail)) ⊎ ((i ≡ at + length (digits (rest / 10))) × (digits n ≡ digits (rest / 10) ++ (d ∷ s.tail)))
+        by true h p q =
+            let k = ltb-true rest 10 h in
+            inl (omega (arith, p, one-digit rest k), q ∙ ap (λ (w : List ℕ). w ++ s.tail) (digits-one rest k) ∙ ap (λ (r : ℕ). digit r ∷ s.tail) (omega arith))
+        by false h p q =
+            let k = ltb-false rest 10 h in
+            inr (omega (arith, p, one_more rest k), q ∙ ap (λ (w : List ℕ). w ++ s.tail) (digits_more rest k) ∙ append_assoc (digits (rest / 10)) (d ∷ []) s.tail)
 
-    pub spelled_same : length m ≡ length l
-    spelled_same = ap length s.sofar ∙ length-sets l (i + 1) s.tail
-
-    -- the place is in the buffer
-    pub spelled-room : at + length (digits n) ≤ length l → i < length m
-    spelled-room h = omega (arith, spelled_same, s.place, ap length s.all ∙ length-append (digits rest) s.tail)
-
-    pub spelled-end : rest < 10 → set m i (digit rest) ≡ sets l at (digits n)
+    pub spelled-end : j ≤ at → m ≡ sets l at (digits n)
     spelled-end h =
-        let p : i ≡ at = omega (arith, s.place, one-digit rest h) in
-        onward l s.tail i (digit rest) s.sofar ∙ ap (λ (j : ℕ). sets l j (digit rest ∷ s.tail)) p
-        ∙ ap (sets l at) (sym (s.all ∙ ap (λ (w : List ℕ). w ++ s.tail) (digits-one rest h)))
+        ⊎_elim (λ p. s.sofar ∙ ap (λ k. sets l k s.tail) p.0 ∙ ap (sets l at) (sym p.1)) (λ p. absurd (omega (arith, p.0, some-digits rest))) s.left
