@@ -1,15 +1,15 @@
 -- Laws of numbers in decimal, and of writing them from the last digit on. Assumes nothing.
-use Prim.Native.Nat.{ℕ, zero, suc, ◌+◌, ◌*◌, ◌/◌, ◌%◌, ◌^◌, ◌≤◌, ◌<◌}
+use Prim.Native.Nat.{ℕ, zero, suc, ◌+◌, ◌-◌, ◌*◌, ◌/◌, ◌%◌, ◌^◌, ◌≤◌, ◌<◌}
 use mathlib.Core.Path.{◌≡◌, refl, ap, sym, ◌∙◌}
 use mathlib.Core.Bool.{Bool, true, false}
 use mathlib.Core.Logic.{◌⊎◌, inl, inr, ⊎_elim}
-use mathlib.Core.List.{List, [], ◌∷◌, ◌++◌, append_assoc, append-nil}
-use native.Mathlib.Nat.{div-lt_self, div-lt_iff_lt-mul, pow-suc}
+use mathlib.Core.List.{List, [], ◌∷◌, ◌++◌, append_assoc}
+use native.Mathlib.Nat.{div-lt_self, pow-suc}
 use native.Mathlib.Numerals.{add-one}
 use native.Mathlib.Omega.{arith}
 use borrow.Author.Tests.{lt-ltb, le-ltb, ltb-true, ltb-false}
 use lib.ListN.{length, set, length-append}
-use lib.Seq.{set_comm, sets}
+use lib.Seq.{set_comm, sets, length-sets}
 use lib.Dec.{ltb}
 use Rattle.std.specs.Prelude.{max, if◌then◌else◌}
 use Rattle.listing.specs.Listing.{digit, digits_by, digits}
@@ -52,35 +52,40 @@ some-digits n = go (ltb n 10) refl
     go true e = omega (arith, one-digit n (ltb-true n 10 e))
     go false e = omega (arith, one_more n (ltb-false n 10 e))
 
--- how many, at most
-few : (k n : ℕ) → n < 10 ^ suc k → length (digits n) ≤ suc k
-few zero n h = omega (arith, one-digit n (omega arith))
-few (suc k) n h = go (ltb n 10) refl (few k (n / 10) ((div-lt_iff_lt-mul (omega arith)).1 (rw (pow-suc 10 (suc k)) at h)))
-  where
-    go : (t : Bool) → ltb n 10 ≡ t → length (digits (n / 10)) ≤ suc k → length (digits n) ≤ suc (suc k)
-    go true e f = omega (arith, one-digit n (ltb-true n 10 e))
-    go false e f = omega (arith, one_more n (ltb-false n 10 e))
+-- ---- counting them
 
-pub few-digits : (n : ℕ) → n < 2 ^ 64 → length (digits n) ≤ 20
-few-digits n h = few 19 n (omega arith)
+pub record Counted (n count rest : ℕ) : Type 0 where
+  pub all : count + length (digits rest) ≡ length (digits n) + 1
+  pub small : rest ≤ n
 
--- ---- counting them, by the power of ten below
+pub counted_start : (n : ℕ) → Counted n 1 n
+counted_start n = record { all = omega arith; small = omega arith }
 
-at-least-one : (k : ℕ) → 1 ≤ 10 ^ k
-at-least-one zero = omega arith
-at-least-one (suc k) = omega (arith, pow-suc 10 k, at-least-one k)
+module _ (n : ℕ) {count rest : ℕ} (c : Counted n count rest) where
+  pub counted_next : 10 ≤ rest → Counted n (count + 1) (rest / 10)
+  counted_next h = record { all = omega (arith, one_more rest h, c.all); small = omega (arith, tenth rest h, c.small) }
 
--- of a number of at least 1
-count : (k m : ℕ) → 1 ≤ m → 10 ^ k ≤ m → m < 10 * 10 ^ k → k + 1 ≡ length (digits m)
-count zero m a h g = omega (arith, one-digit m (omega (arith, g)))
-count (suc k) m a h g =
-    let p : 10 ^ suc k ≡ 10 ^ k * 10 = pow-suc 10 k in
+  pub counted-end : rest < 10 → count ≡ length (digits n)
+  counted-end h = omega (arith, one-digit rest h, c.all)
+
+-- by the power of ten below
+powers : (k n : ℕ) {c rest : ℕ} → Counted n c rest → 10 ^ k ≤ rest → rest < 10 * 10 ^ k → c + k ≡ length (digits n)
+powers zero n s h g = omega (arith, counted-end n s (omega (arith, g)))
+powers (suc k) n {c} {rest} s h g =
+    let p = pow-suc 10 k in
     let o = at-least-one k in
-    omega (arith, one_more m (omega arith), count k (m / 10) (omega arith) (omega arith) (omega arith))
+    omega (arith, powers k n (counted_next n s (omega arith)) (omega arith) (omega arith))
+  where
+    at-least-one : (j : ℕ) → 1 ≤ 10 ^ j
+    at-least-one zero = omega arith
+    at-least-one (suc j) = omega (arith, pow-suc 10 j, at-least-one j)
 
 pub counted : (n k : ℕ) {m : ℕ} → m ≡ max n 1 → 10 ^ k ≤ m → m < 10 * 10 ^ k → k + 1 ≡ length (digits n)
-counted zero k {m} e h g = omega (arith, count k m (omega arith) h g, one-digit m (omega arith), one-digit 0 (omega arith))
-counted (suc n) k {m} e h g = count k m (omega arith) h g ∙ ap (λ j. length (digits j)) (omega arith)
+counted zero k {m} e h g = omega (arith, powers k m (counted_start m) h g, one-digit m (omega arith), one-digit 0 (omega arith))
+counted (suc n) k {m} e h g = omega (arith, powers k m (counted_start m) h g, ap (λ j. length (digits j)) e, ap (λ j. length (digits j)) (max-one n))
+  where
+    max-one : (n : ℕ) → max (suc n) 1 ≡ suc n
+    max-one n = omega arith
 
 -- ---- writing them, the last one first
 
@@ -92,37 +97,50 @@ earlier l j (a ∷ w) i d h = earlier (set l j a) (suc j) w i d (omega arith) �
 onward : (l : List ℕ) (w : List ℕ) (i d : ℕ) {m : List ℕ} → m ≡ sets l (i + 1) w → set m i d ≡ sets l i (d ∷ w)
 onward l w i d {m} em = ap (λ (k : List ℕ). set k i d) em ∙ earlier l (i + 1) w i d (omega arith) ∙ ap (λ (j : ℕ). sets (set l i d) j w) (add-one i)
 
--- of the digits of n, which go to l from place `at` on, those from place j on are written. They are all, or those of `rest` are still to be written
-pub record Spelled (n at : ℕ) (l : List ℕ) (m : List ℕ) (j rest : ℕ) : Type 0 where
+-- of the digits of n, which go to l from place `at` on, those of `rest` are still to be written; the last of them goes to place i
+pub record Spelled (n at : ℕ) (l : List ℕ) (m : List ℕ) (i rest : ℕ) : Type 0 where
   pub tail : List ℕ
-  pub sofar : m ≡ sets l j tail
-  pub left : ((j ≡ at) × (digits n ≡ tail)) ⊎ ((j ≡ at + length (digits rest)) × (digits n ≡ digits rest ++ tail))
+  pub place : i + 1 ≡ at + length (digits rest)
+  pub all : digits n ≡ digits rest ++ tail
+  pub sofar : m ≡ sets l (i + 1) tail
+  pub small : rest ≤ n
 
 module _ (n at : ℕ) (l : List ℕ) where
-  pub spelled-start : {e : ℕ} → e ≡ at + length (digits n) → Spelled n at l l e n
-  spelled-start {e} ee = record { tail = []; sofar = refl; left = inr (ee, sym (append-nil (digits n))) }
-
-  module _ {m : List ℕ} {j rest : ℕ} (s : Spelled n at l m j rest) where
-    pub spelled-next : (i : ℕ) → at ≤ i → i + 1 ≡ j → Spelled n at l (set m i (digit (rest % 10))) i (rest / 10)
-    spelled-next i a e =
+  module _ {m : List ℕ} {i rest : ℕ} (s : Spelled n at l m i rest) where
+    pub spelled-next : 10 ≤ rest → Spelled n at l (set m i (digit (rest % 10))) (i - 1) (rest / 10)
+    spelled-next h =
+        let d = digit (rest % 10) in
+        let p : i - 1 + 1 ≡ i = omega (arith, s.place, one_more rest h, some-digits (rest / 10)) in
         record {
           tail = d ∷ s.tail;
-          sofar = onward l s.tail i d (s.sofar ∙ ap (λ k. sets l k s.tail) (sym e));
-          left = ⊎_elim (λ p. absurd (omega (arith, p.0))) (λ p. by (ltb rest 10) refl p.0 p.1) s.left;
+          place = omega (arith, p, s.place, one_more rest h);
+          all = s.all ∙ ap (λ (w : List ℕ). w ++ s.tail) (digits_more rest h) ∙ append_assoc (digits (rest / 10)) (d ∷ []) s.tail;
+          sofar = onward l s.tail i d s.sofar ∙ ap (λ (j : ℕ). sets l j (d ∷ s.tail)) (sym p);
+          small = omega (arith, tenth rest h, s.small);
         }
-      where
-        d : ℕ
-        d = digit (rest % 10)
 
-        by : (t : Bool) → ltb rest 10 ≡ t → j ≡ at + length (digits rest) → digits n ≡ digits rest ++ s.tail
-            → ((i ≡ at) × (digits n ≡ d ∷ s.tail)) ⊎ ((i ≡ at + length (digits (rest / 10))) × (digits n ≡ digits (rest / 10) ++ (d ∷ s.tail)))
-        by true h p q =
-            let k = ltb-true rest 10 h in
-            inl (omega (arith, p, one-digit rest k), q ∙ ap (λ (w : List ℕ). w ++ s.tail) (digits-one rest k) ∙ ap (λ (r : ℕ). digit r ∷ s.tail) (omega arith))
-        by false h p q =
-            let k = ltb-false rest 10 h in
-            inr (omega (arith, p, one_more rest k), q ∙ ap (λ (w : List ℕ). w ++ s.tail) (digits_more rest k) ∙ append_assoc (digits (rest / 10)) (d ∷ []) s.tail)
+    pub spelled_same : length m ≡ length l
+    spelled_same = ap length s.sofar ∙ length-sets l (i + 1) s.tail
 
-    pub spelled-end : j ≤ at → m ≡ sets l at (digits n)
+    pub spelled-end : rest < 10 → set m i (digit rest) ≡ sets l at (digits n)
     spelled-end h =
-        ⊎_elim (λ p. s.sofar ∙ ap (λ k. sets l k s.tail) p.0 ∙ ap (sets l at) (sym p.1)) (λ p. absurd (omega (arith, p.0, some-digits rest))) s.left
+        let p : i ≡ at = omega (arith, s.place, one-digit rest h) in
+        onward l s.tail i (digit rest) s.sofar ∙ ap (λ (j : ℕ). sets l j (digit rest ∷ s.tail)) p
+        ∙ ap (sets l at) (sym (s.all ∙ ap (λ (w : List ℕ). w ++ s.tail) (digits-one rest h)))
+
+-- the digits from place j on are written: they are all, or those of `rest` are still to be written
+abbrev pub Spelling : (n at : ℕ) (l m : List ℕ) (j rest : ℕ) → Type 0
+Spelling n at l m j rest = ((at < j) × Spelled n at l m (j - 1) rest) ⊎ ((j ≡ at) × (m ≡ sets l at (digits n)))
+
+module _ (n at : ℕ) (l : List ℕ) where
+  module _ {m : List ℕ} {j rest : ℕ} (s : Spelling n at l m j rest) where
+    pub spelling-next : at < j → Spelling n at l (set m (j - 1) (digit (rest % 10))) (j - 1) (rest / 10)
+    spelling-next a = ⊎_elim (λ p. by (ltb rest 10) refl p.1) (λ p. absurd (omega (arith, p.0))) s
+      where
+        by : (t : Bool) → ltb rest 10 ≡ t → Spelled n at l m (j - 1) rest → Spelling n at l (set m (j - 1) (digit (rest % 10))) (j - 1) (rest / 10)
+        by true h p =
+            let k = ltb-true rest 10 h in
+            let d : rest % 10 ≡ rest = omega arith in
+            inr (omega (arith, p.place, one-digit rest k), rw d (spelled-end n at l p k))
+        by false h p =
+            let k = ltb-false rest 10 h in inl (omega (arith, p.place, one_more rest k, some-digits (rest / 10)), spelled-next n at l p k)

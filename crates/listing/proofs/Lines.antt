@@ -6,7 +6,7 @@ use mathlib.Core.List.{List, [], ◌∷◌, ◌++◌, append_assoc}
 use native.Mathlib.Nat.{add-zero, zero-add}
 use native.Mathlib.Omega.{arith}
 use borrow.Author.Tests.{lt-ltb, le-ltb, ltb-false}
-use lib.ListN.{length, set, take, drop, length-append}
+use lib.ListN.{length, set, take, drop, length-append, length-drop}
 use Rattle.std.proofs.lemmas.List.{drop-drop}
 use lib.Seq.{sets, sets-eq, length-sets}
 use lib.Dec.{ltb}
@@ -66,19 +66,22 @@ module _ (t l : List ℕ) {size : ℕ} (e : size ≡ length t) where
       let w : Begun (u ++ (newline ∷ [])) l (set m at newline) (at + 1) = begun_more b (newline ∷ []) refl refl in
       (rw (s, e), rw s (w.sofar ∙ ap (sets l 0) (sym et) ∙ sets-eq t l 0 (omega arith) ∙ ap (λ (k : ℕ). t ++ drop k l) (zero-add (length t))))
 
--- ---- for callers: what is answered stays in the buffer
+-- ---- for callers
 
-size-fits : (t : List ℕ) (room : ℕ) (w : Written) → w ≡ text_given t room → w.size ≤ room
-unfolding text_given
-size-fits t room w e = by (ltb room (length t)) refl e
+-- what is answered stays in the buffer
+pub text-inside : (t l : List ℕ) {w : Written} {m : List ℕ} → (w ≡ text_given t (length l)) × (m ≡ text_on t l) → (w.size ≤ length l) × (length m ≡ length l)
+unfolding text_given text_on
+text-inside t l {w} {m} p = by (ltb (length l) (length t)) refl p.0 p.1
   where
-    by : (b : Bool) → ltb room (length t) ≡ b → w ≡ (if b then record { number = no_room; size = 0 } else record { number = done; size = length t }) → w.size ≤ room
-    by true h f = omega (arith, ap (λ (v : Written). v.size) f)
-    by false h f = omega (arith, ap (λ (v : Written). v.size) f, ltb-false room (length t) h)
+    by : (b : Bool) → ltb (length l) (length t) ≡ b → w ≡ (if b then record { number = no_room; size = 0 } else record { number = done; size = length t }) → m ≡ (if b then l else t ++ drop (length t) l) → (w.size ≤ length l) × (length m ≡ length l)
+    by true h e f = (omega (arith, ap (λ (v : Written). v.size) e), ap length f)
+    by false h e f =
+        let n = ltb-false (length l) (length t) h in
+        (omega (arith, ap (λ (v : Written). v.size) e), omega (arith, ap length f, length-append t (drop (length t) l), length-drop (length t) l))
 
-pub text-fits : (t : List ℕ) (room : ℕ) (r : Result ℕ Refusal) → written r ≡ text_given t room → result_unwrap_or r 0 ≤ room
-text-fits t room (Ok n) e = size-fits t room (written (Ok n)) e
-text-fits t room (Err why) e = omega arith
+pub text-fits : (t l : List ℕ) (r : Result ℕ Refusal) {m : List ℕ} → (written r ≡ text_given t (length l)) × (m ≡ text_on t l) → result_unwrap_or r 0 ≤ length l
+text-fits t l (Ok n) p = (text-inside t l p).0
+text-fits t l (Err why) p = omega arith
 
 -- ---- the three lines
 

@@ -5,4 +5,4 @@ use Rattle.listing.proofs.Lines.{text-fits}
 use Rattle.listing.proofs.printing.print_listing.Goals as goal
 
 pub invariant_of-block : goal.invariant_of-block
-invariant_of-block c = record { inside = omega (arith, text-fits (first_line _) _ _ c.first_line.ensures.value, c.unwrap_or-used.ensures) }
+invariant_of-block c = record { inside = omega (arith, text-fits (first_line _) _ _ (c.first_line.ensures.value, c.first_line.ensures.out_after), c.unwrap_or-used.ensures) }
