@@ -1,16 +1,17 @@
 -- Laws of numbers in decimal, and of writing them from the last digit on. Assumes nothing.
-use Prim.Native.Nat.{ℕ, zero, suc, ◌+◌, ◌-◌, ◌/◌, ◌%◌, ◌^◌, ◌≤◌, ◌<◌}
+use Prim.Native.Nat.{ℕ, zero, suc, ◌+◌, ◌-◌, ◌*◌, ◌/◌, ◌%◌, ◌^◌, ◌≤◌, ◌<◌}
 use mathlib.Core.Path.{◌≡◌, refl, ap, sym, ◌∙◌}
 use mathlib.Core.Bool.{Bool, true, false}
-use mathlib.Core.List.{List, [], ◌∷◌, ◌++◌, append_assoc, append-nil}
-use native.Mathlib.Nat.{div-lt_self, div-lt_iff_lt-mul, pow-suc}
+use mathlib.Core.Logic.{◌⊎◌, inl, inr, ⊎_elim}
+use mathlib.Core.List.{List, [], ◌∷◌, ◌++◌, append_assoc}
+use native.Mathlib.Nat.{div-lt_self, pow-suc}
 use native.Mathlib.Numerals.{add-one}
 use native.Mathlib.Omega.{arith}
 use borrow.Author.Tests.{lt-ltb, le-ltb, ltb-true, ltb-false}
 use lib.ListN.{length, set, length-append}
 use lib.Seq.{set_comm, sets, length-sets}
 use lib.Dec.{ltb}
-use Rattle.std.specs.Prelude.{if◌then◌else◌}
+use Rattle.std.specs.Prelude.{max, if◌then◌else◌}
 use Rattle.listing.specs.Listing.{digit, digits_by, digits}
 
 -- ---- the digits of a number
@@ -51,18 +52,6 @@ some-digits n = go (ltb n 10) refl
     go true e = omega (arith, one-digit n (ltb-true n 10 e))
     go false e = omega (arith, one_more n (ltb-false n 10 e))
 
--- how many, at most
-few : (k n : ℕ) → n < 10 ^ suc k → length (digits n) ≤ suc k
-few zero n h = omega (arith, one-digit n (omega arith))
-few (suc k) n h = go (ltb n 10) refl (few k (n / 10) ((div-lt_iff_lt-mul (omega arith)).1 (rw (pow-suc 10 (suc k)) at h)))
-  where
-    go : (t : Bool) → ltb n 10 ≡ t → length (digits (n / 10)) ≤ suc k → length (digits n) ≤ suc (suc k)
-    go true e f = omega (arith, one-digit n (ltb-true n 10 e))
-    go false e f = omega (arith, one_more n (ltb-false n 10 e))
-
-pub few-digits : (n : ℕ) → n < 2 ^ 64 → length (digits n) ≤ 20
-few-digits n h = few 19 n (omega arith)
-
 -- ---- counting them
 
 pub record Counted (n count rest : ℕ) : Type 0 where
@@ -76,11 +65,27 @@ module _ (n : ℕ) {count rest : ℕ} (c : Counted n count rest) where
   pub counted_next : 10 ≤ rest → Counted n (count + 1) (rest / 10)
   counted_next h = record { all = omega (arith, one_more rest h, c.all); small = omega (arith, tenth rest h, c.small) }
 
-  pub counted-fits : n < 2 ^ 64 → count ≤ 20
-  counted-fits h = omega (arith, some-digits rest, c.all, few-digits n h)
-
   pub counted-end : rest < 10 → count ≡ length (digits n)
   counted-end h = omega (arith, one-digit rest h, c.all)
+
+-- by the power of ten below
+powers : (k n : ℕ) {c rest : ℕ} → Counted n c rest → 10 ^ k ≤ rest → rest < 10 * 10 ^ k → c + k ≡ length (digits n)
+powers zero n s h g = omega (arith, counted-end n s (omega (arith, g)))
+powers (suc k) n {c} {rest} s h g =
+    let p = pow-suc 10 k in
+    let o = at-least-one k in
+    omega (arith, powers k n (counted_next n s (omega arith)) (omega arith) (omega arith))
+  where
+    at-least-one : (j : ℕ) → 1 ≤ 10 ^ j
+    at-least-one zero = omega arith
+    at-least-one (suc j) = omega (arith, pow-suc 10 j, at-least-one j)
+
+pub counted : (n k : ℕ) {m : ℕ} → m ≡ max n 1 → 10 ^ k ≤ m → m < 10 * 10 ^ k → k + 1 ≡ length (digits n)
+counted zero k {m} e h g = omega (arith, powers k m (counted_start m) h g, one-digit m (omega arith), one-digit 0 (omega arith))
+counted (suc n) k {m} e h g = omega (arith, powers k m (counted_start m) h g, ap (λ j. length (digits j)) e, ap (λ j. length (digits j)) (max-one n))
+  where
+    max-one : (n : ℕ) → max (suc n) 1 ≡ suc n
+    max-one n = omega arith
 
 -- ---- writing them, the last one first
 
@@ -101,9 +106,6 @@ pub record Spelled (n at : ℕ) (l : List ℕ) (m : List ℕ) (i rest : ℕ) : T
   pub small : rest ≤ n
 
 module _ (n at : ℕ) (l : List ℕ) where
-  pub spelled-start : {e : ℕ} → e ≡ at + length (digits n) → Spelled n at l l (e - 1) n
-  spelled-start {e} ee = record { tail = []; place = omega (arith, some-digits n); all = sym (append-nil (digits n)); sofar = refl; small = omega arith }
-
   module _ {m : List ℕ} {i rest : ℕ} (s : Spelled n at l m i rest) where
     pub spelled-next : 10 ≤ rest → Spelled n at l (set m i (digit (rest % 10))) (i - 1) (rest / 10)
     spelled-next h =
@@ -117,18 +119,28 @@ module _ (n at : ℕ) (l : List ℕ) where
           small = omega (arith, tenth rest h, s.small);
         }
 
-    pub spelled-before : 10 ≤ rest → 1 ≤ i
-    spelled-before h = omega (arith, s.place, one_more rest h, some-digits (rest / 10))
-
     pub spelled_same : length m ≡ length l
     spelled_same = ap length s.sofar ∙ length-sets l (i + 1) s.tail
-
-    -- the place is in the buffer
-    pub spelled-room : at + length (digits n) ≤ length l → i < length m
-    spelled-room h = omega (arith, spelled_same, s.place, ap length s.all ∙ length-append (digits rest) s.tail)
 
     pub spelled-end : rest < 10 → set m i (digit rest) ≡ sets l at (digits n)
     spelled-end h =
         let p : i ≡ at = omega (arith, s.place, one-digit rest h) in
         onward l s.tail i (digit rest) s.sofar ∙ ap (λ (j : ℕ). sets l j (digit rest ∷ s.tail)) p
         ∙ ap (sets l at) (sym (s.all ∙ ap (λ (w : List ℕ). w ++ s.tail) (digits-one rest h)))
+
+-- the digits from place j on are written: they are all, or those of `rest` are still to be written
+abbrev pub Spelling : (n at : ℕ) (l m : List ℕ) (j rest : ℕ) → Type 0
+Spelling n at l m j rest = ((at < j) × Spelled n at l m (j - 1) rest) ⊎ ((j ≡ at) × (m ≡ sets l at (digits n)))
+
+module _ (n at : ℕ) (l : List ℕ) where
+  module _ {m : List ℕ} {j rest : ℕ} (s : Spelling n at l m j rest) where
+    pub spelling-next : at < j → Spelling n at l (set m (j - 1) (digit (rest % 10))) (j - 1) (rest / 10)
+    spelling-next a = ⊎_elim (λ p. by (ltb rest 10) refl p.1) (λ p. absurd (omega (arith, p.0))) s
+      where
+        by : (t : Bool) → ltb rest 10 ≡ t → Spelled n at l m (j - 1) rest → Spelling n at l (set m (j - 1) (digit (rest % 10))) (j - 1) (rest / 10)
+        by true h p =
+            let k = ltb-true rest 10 h in
+            let d : rest % 10 ≡ rest = omega arith in
+            inr (omega (arith, p.place, one-digit rest k), rw d (spelled-end n at l p k))
+        by false h p =
+            let k = ltb-false rest 10 h in inl (omega (arith, p.place, one_more rest k, some-digits (rest / 10)), spelled-next n at l p k)

@@ -1,19 +1,21 @@
 -- Laws of texts that are put into a buffer part by part. Assumes nothing.
-use Prim.Native.Nat.{ℕ, suc, ◌+◌, ◌≤◌, ◌<◌}
+use Prim.Native.Nat.{ℕ, suc, ◌+◌, ◌-◌, ◌≤◌, ◌<◌}
 use mathlib.Core.Path.{◌≡◌, refl, ap, sym, ◌∙◌}
 use mathlib.Core.Bool.{Bool, true, false}
 use mathlib.Core.List.{List, [], ◌∷◌, ◌++◌, append_assoc}
 use native.Mathlib.Nat.{add-zero, zero-add}
-use native.Mathlib.Numerals.{add-one}
 use native.Mathlib.Omega.{arith}
 use borrow.Author.Tests.{lt-ltb, le-ltb, ltb-false}
-use lib.ListN.{length, get_or, set, take, drop, length-append, length-drop, length-set}
-use lib.Seq.{sets, sets-eq, length-sets, take-suc, take-length, length-take-le}
+use lib.ListN.{length, set, take, drop, length-append, length-drop}
+use Rattle.std.proofs.lemmas.List.{drop-drop}
+use lib.Seq.{sets, sets-eq, length-sets}
 use lib.Dec.{ltb}
 use Rattle.numbers.specs.Numbers.{done, no_room}
 use Rattle.std.specs.Prelude.{if◌then◌else◌}
-use Rattle.listing.specs.declared.Written.{Written}
-use Rattle.listing.specs.Listing.{ascii, digits, part, newline, paper_line, row_line, refused_line, text_on, text_given}
+use Rattle.std.specs.Prelude.{Result, Ok, Err}
+use Rattle.std.specs.Result.{result_unwrap_or}
+use Rattle.numbers.specs.declared.refusal.Refusal.{Refusal}
+use Rattle.listing.specs.Listing.{Written, written, ascii, digits, part, newline, paper_line, row_line, refused_line, text_on, text_given}
 
 -- one text put after another
 pub sets_more : (l : List ℕ) (i : ℕ) (u v : List ℕ) → sets (sets l i u) (i + length u) v ≡ sets l i (u ++ v)
@@ -23,35 +25,14 @@ sets_more l i (a ∷ u) v = ap (λ (k : ℕ). sets (sets (set l i a) (suc i) u) 
 pub sets-after : (l : List ℕ) (at : ℕ) (u v : List ℕ) {next end : ℕ} {m k : List ℕ} → next ≡ at + length u → m ≡ sets l at u → end ≡ next + length v → k ≡ sets m next v → (end ≡ at + length (u ++ v)) × (k ≡ sets l at (u ++ v))
 sets-after l at u v en em ee ek = (omega (arith, en, ee, length-append u v), ek ∙ rw (em, en) (sets_more l at u v))
 
--- ---- a word, byte by byte: i bytes of w are put from place `at` on
-
-pub record Copied (w : List ℕ) (at : ℕ) (l m : List ℕ) (i : ℕ) : Type 0 where
-  pub upto : i ≤ length w
-  pub sofar : m ≡ sets l at (take i w)
-
-module _ (w : List ℕ) (at : ℕ) (l : List ℕ) where
-  pub copied-start : Copied w at l l 0
-  copied-start = record { upto = omega arith; sofar = refl }
-
-  module _ {m : List ℕ} {i : ℕ} (c : Copied w at l m i) where
-    pub copied_next : i < length w → Copied w at l (set m (at + i) (get_or w i 0)) (i + 1)
-    copied_next h =
-        record {
-          upto = omega arith;
-          sofar =
-              ap (λ (k : List ℕ). set k (at + i) (get_or w i 0)) c.sofar
-              ∙ ap (λ (k : ℕ). set (sets l at (take i w)) (at + k) (get_or w i 0)) (sym (length-take-le i w c.upto))
-              ∙ sets_more l at (take i w) (get_or w i 0 ∷ [])
-              ∙ ap (sets l at) (sym (take-suc w i 0 h) ∙ ap (λ (k : ℕ). take k w) (sym (add-one i)));
-        }
-
-    pub copied-room : length m ≡ length l
-    copied-room = ap length c.sofar ∙ length-sets l at (take i w)
-
-    pub copied-end : length w ≤ i → (i ≡ length w) × (m ≡ sets l at w)
-    copied-end h =
-        let e : i ≡ length w = omega (arith, c.upto) in
-        (e, c.sofar ∙ ap (sets l at) (ap (λ (k : ℕ). take k w) e ∙ take-length w))
+-- a word that is copied into a part of the buffer, and the bytes after that part
+pub word-put : (w l : List ℕ) (at : ℕ) {v : List ℕ} → at + length w ≤ length l → v ≡ w → take at l ++ (v ++ drop (at + length w - at) (drop at l)) ≡ sets l at w
+word-put w l at h e =
+    let n : at + (at + length w - at) ≡ at + length w = omega arith in
+    ap (λ (u : List ℕ). take at l ++ (u ++ drop (at + length w - at) (drop at l))) e
+    ∙ ap (λ (r : List ℕ). take at l ++ (w ++ r)) (drop-drop (at + length w - at) at l ∙ ap (λ (k : ℕ). drop k l) n)
+    ∙ sym (append_assoc (take at l) w (drop (at + length w) l))
+    ∙ sym (sets-eq w l at h)
 
 -- ---- a line, part by part: t stands in m from the buffer's start on
 
@@ -71,9 +52,6 @@ begun_more {t} {l} {m} {at} b u en ek =
       sofar = ek ∙ ap (λ (k : List ℕ). sets k at u) b.sofar ∙ ap (λ (k : ℕ). sets (sets l 0 t) k u) (omega (arith, b.place)) ∙ sets_more l 0 t u;
     }
 
-pub begun-same : {t l m : List ℕ} {at : ℕ} → Begun t l m at → length (set m at newline) ≡ length l
-begun-same {t} {l} {m} {at} b = length-set m at newline ∙ b.same
-
 -- ---- the answer and the buffer, for a text of `size` bytes
 
 module _ (t l : List ℕ) {size : ℕ} (e : size ≡ length t) where
@@ -88,7 +66,9 @@ module _ (t l : List ℕ) {size : ℕ} (e : size ≡ length t) where
       let w : Begun (u ++ (newline ∷ [])) l (set m at newline) (at + 1) = begun_more b (newline ∷ []) refl refl in
       (rw (s, e), rw s (w.sofar ∙ ap (sets l 0) (sym et) ∙ sets-eq t l 0 (omega arith) ∙ ap (λ (k : ℕ). t ++ drop k l) (zero-add (length t))))
 
--- for callers: what is answered stays in the buffer
+-- ---- for callers
+
+-- what is answered stays in the buffer
 pub text-inside : (t l : List ℕ) {w : Written} {m : List ℕ} → (w ≡ text_given t (length l)) × (m ≡ text_on t l) → (w.size ≤ length l) × (length m ≡ length l)
 unfolding text_given text_on
 text-inside t l {w} {m} p = by (ltb (length l) (length t)) refl p.0 p.1
@@ -98,6 +78,10 @@ text-inside t l {w} {m} p = by (ltb (length l) (length t)) refl p.0 p.1
     by false h e f =
         let n = ltb-false (length l) (length t) h in
         (omega (arith, ap (λ (v : Written). v.size) e), omega (arith, ap length f, length-append t (drop (length t) l), length-drop (length t) l))
+
+pub text-fits : (t l : List ℕ) (r : Result ℕ Refusal) {m : List ℕ} → (written r ≡ text_given t (length l)) × (m ≡ text_on t l) → result_unwrap_or r 0 ≤ length l
+text-fits t l (Ok n) p = (text-inside t l p).0
+text-fits t l (Err why) p = omega arith
 
 -- ---- the three lines
 

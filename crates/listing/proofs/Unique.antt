@@ -1,22 +1,59 @@
 -- Each public function's contract leaves one answer and one content of the lent buffer. Assumes nothing.
-use Rattle.numbers.proofs.OneAnswer.{OneAnswer, OneContent, both}
+use Rattle.std.proofs.Common.{ℕ, ◌≡◌, refl, sym, ap, ◌∙◌, ◌-◌, [], ◌∷◌}
+use Rattle.std.specs.Prelude.{Result, Ok, Err, eqb, get_or, if◌then◌else◌}
+use Rattle.numbers.specs.Numbers.{done}
+use Rattle.numbers.specs.declared.refusal.Refusal.{Refusal}
+use Rattle.numbers.specs.declared.refusal.Refusal.TheVariants.{NoRoom, TooLarge, WrongLength, NoLayers, OffPaper, TooMany, Short, TooTall, BadCanvas, EmptyArea, BadJob, TooLong, NotTranslated, BadPlan, NoRow, LayerSize}
+use Rattle.listing.specs.Listing.{Written, written}
+use Rattle.numbers.proofs.OneAnswer.{OneAnswer, OneAnswerWhere, OneContent, both}
 use Rattle.listing.proofs.list_job.Reads as list-job
 use Rattle.listing.proofs.first_line.Reads as first-line
 use Rattle.listing.proofs.row_line.Reads as row-line
 use Rattle.listing.proofs.writing.digits_of.Reads as digits_of
 use Rattle.listing.proofs.writing.put_part.Reads as put-part
+use Rattle.listing.proofs.printing.print_listing.Reads as print-listing
+
+-- what is written tells what was answered
+why : ℕ → Refusal
+why number = get_or (NoRoom ∷ TooLarge ∷ WrongLength ∷ NoLayers ∷ OffPaper ∷ TooMany ∷ Short ∷ TooTall ∷ BadCanvas ∷ EmptyArea ∷ BadJob ∷ TooLong ∷ NotTranslated ∷ BadPlan ∷ NoRow ∷ LayerSize ∷ []) (number - 1) NoRoom
+
+read : Written → Result ℕ Refusal
+read w = if eqb w.number done then Ok w.size else Err (why w.number)
+
+read_written : (r : Result ℕ Refusal) → read (written r) ≡ r
+unfolding read why
+read_written (Ok n) = refl
+read_written (Err NoRoom) = refl
+read_written (Err TooLarge) = refl
+read_written (Err WrongLength) = refl
+read_written (Err NoLayers) = refl
+read_written (Err OffPaper) = refl
+read_written (Err TooMany) = refl
+read_written (Err Short) = refl
+read_written (Err TooTall) = refl
+read_written (Err BadCanvas) = refl
+read_written (Err EmptyArea) = refl
+read_written (Err BadJob) = refl
+read_written (Err TooLong) = refl
+read_written (Err NotTranslated) = refl
+read_written (Err BadPlan) = refl
+read_written (Err NoRow) = refl
+read_written (Err LayerSize) = refl
+
+same-result : (x y : Result ℕ Refusal) → written x ≡ written y → x ≡ y
+same-result x y e = sym (read_written x) ∙ ap read e ∙ read_written y
 
 list-job-one : OneAnswer list-job.Post
 list-job-one k a x y e f p q = both p q
 
 first-line-one : OneAnswer first-line.Post
-first-line-one k a x y e f p q = both p.0 q.0
+first-line-one k a x y e f p q = same-result x y (both p.0 q.0)
 
 first-line-content : OneContent first-line.Post (λ k e. e.1.0.now)
 first-line-content k a x y e f p q = both p.1 q.1
 
 row-line-one : OneAnswer row-line.Post
-row-line-one k a x y e f p q = both p.0 q.0
+row-line-one k a x y e f p q = same-result x y (both p.0 q.0)
 
 row-line-content : OneContent row-line.Post (λ k e. e.1.1.0.now)
 row-line-content k a x y e f p q = both p.1 q.1
@@ -29,3 +66,7 @@ put-part-one k a x y e f p q = both p.0 q.0
 
 put-part-content : OneContent put-part.Post (λ k e. e.1.1.1.0.now)
 put-part-content k a x y e f p q = both p.1 q.1
+
+-- a unit has one value; what is written, and when a write fails, is nowhere said
+print-listing-one : OneAnswerWhere (λ k r. r ≡ Ok tt) print-listing.Post
+print-listing-one k a x y e f p q u v = both u v

@@ -1,14 +1,14 @@
 -- The listing: 01, "The listing".
-use Rattle.std.specs.Prelude.{ℕ, zero, suc, ◌+◌, ◌*◌, ◌/◌, ◌%◌, List, [], ◌∷◌, ◌++◌, length, drop, replicate, ltb, eqb, if◌then◌else◌}
+use Rattle.std.specs.Prelude.{ℕ, zero, suc, Result, Ok, Err, ◌+◌, ◌*◌, ◌/◌, ◌%◌, List, [], ◌∷◌, ◌++◌, length, drop, replicate, ltb, eqb, if◌then◌else◌}
 use Prim.Native.Char.{code}
 use Prim.Native.String.{String, [] as none, ◌∷◌ as ◌then◌}
-use Rattle.numbers.specs.Numbers.{done, no_room, bad_job}
+use Rattle.numbers.specs.Numbers.{done, no_room, bad_job, number_of}
+use Rattle.numbers.specs.declared.refusal.Refusal.{Refusal}
 use Rattle.colour.specs.Colour.{blank}
 use Rattle.plan.specs.declared.Plan.{Plan}
 use Rattle.plan.specs.declared.Translated.{Translated}
 use Rattle.plan.specs.Plan.{plan_with, translated}
 use Rattle.rows.specs.Rows.{plan_given}
-use Rattle.listing.specs.declared.Written.{Written}
 
 -- ---- text
 
@@ -48,6 +48,15 @@ unfoldable pub refused_line : ℕ → List ℕ
 refused_line number = part "refused " number ++ (newline ∷ [])
 
 -- ---- a text in a lent buffer: all of it or nothing
+
+-- what a line answers: the number, and how many bytes the text has
+pub record Written : Type 0 where
+  pub number : ℕ
+  pub size : ℕ
+
+abbrev pub written : Result ℕ Refusal → Written
+written (Ok size) = record { number = done; size = size }
+written (Err why) = record { number = number_of why; size = 0 }
 
 unfoldable pub text_on : List ℕ → List ℕ → List ℕ
 text_on t l = if ltb (length l) (length t) then l else t ++ drop (length t) l

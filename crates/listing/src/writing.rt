@@ -7,13 +7,7 @@ ghost use Rattle.listing.specs.Listing.{digits};
 pub fn digits_of(n: usize) -> usize
     ensures { (result ≡ length (digits n)) × (result ≤ 20) }
 {
-    let mut count = 1;
-    let mut rest = n;
-    while rest >= 10 {
-        rest /= 10;
-        count += 1;
-    }
-    count
+    n.max(1).ilog10() as usize + 1
 }
 
 fn put_word(word: &[u8], at: usize, out: &mut [u8]) -> usize
@@ -21,12 +15,9 @@ fn put_word(word: &[u8], at: usize, out: &mut [u8]) -> usize
     ensures value { result ≡ at + length word.now }
     ensures out_after { out.new ≡ sets out.old at word.now }
 {
-    let mut i = 0;
-    while i < word.len() {
-        out[at + i] = word[i];
-        i += 1;
-    }
-    at + i
+    let end = at + word.len();
+    out[at..end].copy_from_slice(word);
+    end
 }
 
 // The last digit first.
@@ -36,14 +27,11 @@ fn put_number(n: usize, at: usize, out: &mut [u8]) -> usize
     ensures out_after { out.new ≡ sets out.old at (digits n) }
 {
     let end = at + digits_of(n);
-    let mut i = end - 1;
     let mut rest = n;
-    while rest >= 10 {
+    for i in (at..end).rev() {
         out[i] = b'0' + (rest % 10) as u8;
         rest /= 10;
-        i -= 1;
     }
-    out[i] = b'0' + rest as u8;
     end
 }
 

@@ -1,30 +1,21 @@
 // Calls that draw.
-ghost use Rattle.std.specs.Prelude.{◌≤◌, length};
-
-use super::record::image_at;
+use super::record::{LINE, image_at};
 use thermal_image::Answer;
 use vectors::hex::{color_at, number_at};
 use vectors::seeds::fill_from;
 
-// Pixels are worked out from a seed.
-pub fn put(line: &[u8], buf: &mut [u8]) -> Answer
-    requires { 167 ≤ length line.now }
-{
+// Pixels are worked out from a seed. There is no answer where there are too many.
+pub fn put(line: &[u8; LINE], buf: &mut [u8]) -> Option<Answer> {
     let count = number_at(line, 78, 6) as usize;
     if count > 4096 {
-        return Answer {
-            number: 255,
-            image: image_at(line),
-        };
+        return None;
     }
     let mut pixels = [0; 4096];
     fill_from(&mut pixels, count, number_at(line, 69, 8));
-    put_all(line, &pixels[..count], buf)
+    Some(put_all(line, &pixels[..count], buf))
 }
 
-fn put_all(line: &[u8], pixels: &[u8], buf: &mut [u8]) -> Answer
-    requires { 167 ≤ length line.now }
-{
+fn put_all(line: &[u8; LINE], pixels: &[u8], buf: &mut [u8]) -> Answer {
     let kind = line[0];
     let t = image_at(line);
     let x = number_at(line, 33, 8);
@@ -37,9 +28,7 @@ fn put_all(line: &[u8], pixels: &[u8], buf: &mut [u8]) -> Answer
     drawing::put_render_img(t, x, y, w, h, pixels, kind == b'u', buf)
 }
 
-pub fn filled(line: &[u8], buf: &mut [u8]) -> Answer
-    requires { 167 ≤ length line.now }
-{
+pub fn filled(line: &[u8; LINE], buf: &mut [u8]) -> Answer {
     let kind = line[0];
     let t = image_at(line);
     let x = number_at(line, 33, 8);

@@ -1,12 +1,11 @@
-// The canvas that a call is given, and what a line says of what it gives.
-ghost use Rattle.std.specs.Prelude.{◌≤◌, length};
-
+// A line, the canvas that its call is given, and what it says of what the call gives.
 use thermal_image::{Answer, Copied, Rgb, ThermalImage};
 use vectors::hex::{byte_at, color_at, is_record, number_at};
+use vectors::replay::NO_ANSWER;
 
-pub fn image_at(line: &[u8]) -> ThermalImage
-    requires { 167 ≤ length line.now }
-{
+pub const LINE: usize = 167;
+
+pub fn image_at(line: &[u8; LINE]) -> ThermalImage {
     ThermalImage {
         width: number_at(line, 4, 8),
         height: number_at(line, 13, 8),
@@ -36,15 +35,16 @@ pub fn copied(image: ThermalImage, r: Copied) -> Rgb {
     }
 }
 
-pub fn says(line: &[u8], r: Rgb) -> bool
-    requires { 167 ≤ length line.now }
-{
-    if r.number != byte_at(line, 99) {
-        return false;
-    }
+pub fn says(line: &[u8; LINE], answer: Option<Rgb>) -> bool {
+    let r = answer.unwrap_or(Rgb {
+        number: NO_ANSWER,
+        image: image_at(line),
+        width: 0,
+        height: 0,
+    });
     let t = r.image;
-    if !is_record(line, 102, t.width, t.height, t.auto_grow, t.paper_color) {
-        return false;
-    }
-    r.width == number_at(line, 131, 8) && r.height == number_at(line, 140, 8)
+    r.number == byte_at(line, 99)
+        && is_record(line, 102, t.width, t.height, t.auto_grow, t.paper_color)
+        && r.width == number_at(line, 131, 8)
+        && r.height == number_at(line, 140, 8)
 }

@@ -5,108 +5,69 @@
 
 mod planned;
 
-ghost use Rattle.std.specs.Prelude.{◌≤◌, length};
-
-use input::read_full;
 use job::Dropped;
 use planned::plan_agrees;
 use runs::Ran;
-use std::fs::File;
 use std::io;
 use vectors::buffers::{fresh_buffer, list_space};
 use vectors::hex::{byte_at, is_record, number_at, unpack};
-use vectors::lines::{Tally, line_end};
-use vectors::sums::{NO_BYTES, checksum, sum_with};
+use vectors::replay::replay;
+use vectors::sums::{NO_BYTES, checksum, sum_all};
 
 const HEAD: usize = 76;
 
 fn main(rt: HostRuntime) -> io::Result<()> {
-    replay(&rt, b"jobs", "jobs.txt")?;
-    replay(&rt, b"jobs' refusals", "jobs_refusals.txt")
-}
-
-fn replay(rt: &HostRuntime, name: &[u8], path: &str) -> io::Result<()> {
-    let mut list = File::open(rt, path)?;
     let mut space = list_space();
-    let n = read_full(&mut list, &mut space)?;
-    tally(rt, name, &space[..n])
-}
-
-fn tally(rt: &HostRuntime, name: &[u8], s: &[u8]) -> io::Result<()> {
-    let mut t = Tally::NONE;
-    let mut at = 0;
-    while at < s.len() {
-        let end = line_end(s, at);
-        t = t.with(agrees(&s[at..end]));
-        at = end;
-    }
-    t.tell(rt, name)
+    replay(&rt, "jobs", "jobs.txt", &mut space, agrees)?;
+    replay(
+        &rt,
+        "jobs' refusals",
+        "jobs_refusals.txt",
+        &mut space,
+        agrees,
+    )
 }
 
 fn agrees(line: &[u8]) -> bool {
-    if line.len() < HEAD {
+    let Some((head, hex)) = line.split_first_chunk::<HEAD>() else {
         return false;
-    }
-    let room = number_at(line, 0, 6) as usize;
-    let size = number_at(line, 72, 4) as usize;
-    if line.len() != HEAD + size * 2 + 1 {
-        return false;
-    }
-    if size > 4096 {
-        return false;
-    }
-    if room > 4096 {
+    };
+    let room = number_at(head, 0, 6) as usize;
+    let size = number_at(head, 72, 4) as usize;
+    if hex.len() != size * 2 + 1 || size > 4096 || room > 4096 {
         return false;
     }
     let mut job = [0; 4096];
     let mut buf = fresh_buffer();
-    unpack(line, HEAD, size, &mut job);
-    run_agrees(line, &job[..size], &mut buf[..room])
+    unpack(hex, 0, size, &mut job);
+    run_agrees(head, &job[..size], &mut buf[..room])
 }
 
-fn run_agrees(line: &[u8], job: &[u8], buf: &mut [u8]) -> bool
-    requires { 76 ≤ length line.now }
-{
+// A run that is refused leaves no canvas.
+fn run_agrees(head: &[u8; HEAD], job: &[u8], buf: &mut [u8]) -> bool {
     let r = runs::run(job, buf);
-    if !says(line, r) {
-        return false;
-    }
-    if checksum(buf) != number_at(line, 51, 8) {
+    if !says(head, r) || checksum(buf) != number_at(head, 51, 8) {
         return false;
     }
     if r.number != 0 {
-        return plan_agrees(line, job, &buf[..0]);
+        return plan_agrees(head, job, &buf[..0]);
     }
-    plan_agrees(line, job, buf)
+    plan_agrees(head, job, buf)
 }
 
-fn says(line: &[u8], r: Ran) -> bool
-    requires { 76 ≤ length line.now }
-{
-    if r.number != byte_at(line, 7) {
-        return false;
-    }
+fn says(head: &[u8; HEAD], r: Ran) -> bool {
     let t = r.image;
-    if !is_record(line, 10, t.width, t.height, t.auto_grow, t.paper_color) {
-        return false;
-    }
-    if r.dropped_count != byte_at(line, 39) as usize {
-        return false;
-    }
-    let dropped = r.dropped;
-    listed(dropped, r.dropped_count) == number_at(line, 42, 8)
+    r.number == byte_at(head, 7)
+        && is_record(head, 10, t.width, t.height, t.auto_grow, t.paper_color)
+        && r.dropped_count == byte_at(head, 39) as usize
+        && listed(&r.dropped[..r.dropped_count.min(64)]) == number_at(head, 42, 8)
 }
 
 // The checksum of a dropped list: two bytes each, place and reason.
-fn listed(dropped: [Dropped; 64], count: usize) -> u32 {
+fn listed(dropped: &[Dropped]) -> u32 {
     let mut sum = NO_BYTES;
-    let mut i = 0;
-    while i < 64 {
-        if i < count {
-            let d = dropped[i];
-            sum = sum_with(sum_with(sum, (d.place % 256) as u8), d.reason);
-        }
-        i += 1;
+    for d in dropped {
+        sum = sum_all(sum, &[(d.place % 256) as u8, d.reason]);
     }
     sum
 }

@@ -1,7 +1,7 @@
 mod Checksums
+mod Colours
 mod Digits
 mod Fronts
 mod Newlines
 mod Seeded
-pub mod Tallies
 mod Unique

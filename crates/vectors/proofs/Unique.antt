@@ -7,7 +7,6 @@ use Rattle.vectors.proofs.hex.byte_at.Reads as byte_at
 use Rattle.vectors.proofs.hex.number_at.Reads as number_at
 use Rattle.vectors.proofs.hex.color_at.Reads as color-at
 use Rattle.vectors.proofs.hex.unpack.Reads as unpack
-use Rattle.vectors.proofs.hex.same_color.Reads as same-color
 use Rattle.vectors.proofs.hex.is_record.Reads as is-record
 use Rattle.vectors.proofs.lines.line_end.Reads as line-end
 use Rattle.vectors.proofs.lines.Tally.with.Reads as with-line
@@ -15,6 +14,8 @@ use Rattle.vectors.proofs.lines.Tally.tell.Reads as tell
 use Rattle.vectors.proofs.seeds.fill_from.Reads as fill-from
 use Rattle.vectors.proofs.sums.sum_with.Reads as sum-with
 use Rattle.vectors.proofs.sums.checksum.Reads as checksum
+use Rattle.vectors.proofs.sums.sum_all.Reads as sum-all
+use Rattle.vectors.proofs.replay.replay.Reads as replay
 
 fresh-buffer-one : OneAnswer fresh-buffer.Post
 fresh-buffer-one k a x y e f p q = both p q
@@ -33,9 +34,6 @@ color-at-one k a x y e f p q = both p q
 
 unpack-content : OneContent unpack.Post (λ k e. e.1.1.1.0.now)
 unpack-content k a x y e f p q = both p q
-
-same-color-one : OneAnswer same-color.Post
-same-color-one k a x y e f p q = both p q
 
 is-record-one : OneAnswer is-record.Post
 is-record-one k a x y e f p q = both p q
@@ -58,3 +56,10 @@ sum-with-one k a x y e f p q = both p q
 
 checksum-one : OneAnswer checksum.Post
 checksum-one k a x y e f p q = both p q
+
+sum-all-one : OneAnswer sum-all.Post
+sum-all-one k a x y e f p q = both p q
+
+-- as with `tell`
+replay-one : (F : _) (laws : _) (g : _) (one two three : _) → OneAnswerWhere (λ k r. r ≡ Ok tt) (replay.Post F laws g one two three)
+replay-one F laws g one two three k a x y e f p q u v = both u v

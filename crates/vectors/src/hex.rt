@@ -1,6 +1,6 @@
 // Numbers in lower-case hex at fixed places of a line.
 ghost use Rattle.std.specs.Prelude.{◌≡◌, ◌++◌, ◌+◌, ◌*◌, ◌≤◌, length, drop};
-ghost use Rattle.vectors.specs.Hex.{digit_of, number_at, byte_at, color_at, bytes_at, same_color, is_record};
+ghost use Rattle.vectors.specs.Hex.{digit_of, number_at, byte_at, color_at, bytes_at, is_record};
 
 use colour::RGBA;
 
@@ -26,10 +26,8 @@ pub fn number_at(s: &[u8], at: usize, digits: usize) -> u32
     ensures { result ≡ number_at s.now at digits }
 {
     let mut n: u32 = 0;
-    let mut i = 0;
-    while i < digits {
+    for i in 0..digits {
         n = n * 16 + digit(s[at + i]) as u32;
-        i += 1;
     }
     n
 }
@@ -50,26 +48,9 @@ pub fn unpack(s: &[u8], at: usize, size: usize, out: &mut [u8])
     requires { (size ≤ length out.old) × (at + size * 2 ≤ length s.now) }
     ensures { out.new ≡ bytes_at s.now at size ++ drop size out.old }
 {
-    let mut i = 0;
-    while i < size {
+    for i in 0..size {
         out[i] = byte_at(s, at + i * 2);
-        i += 1;
     }
-}
-
-pub fn same_color(c: RGBA, d: RGBA) -> bool
-    ensures { result ≡ same_color c d }
-{
-    if c.r != d.r {
-        return false;
-    }
-    if c.g != d.g {
-        return false;
-    }
-    if c.b != d.b {
-        return false;
-    }
-    c.a == d.a
 }
 
 // Whether the canvas record at a place is the one that was given.
@@ -77,14 +58,8 @@ pub fn is_record(s: &[u8], at: usize, width: u32, height: u32, grows: bool, pape
     requires { at + 28 ≤ length s.now }
     ensures { result ≡ is_record s.now at width height grows paper }
 {
-    if width != number_at(s, at, 8) {
-        return false;
-    }
-    if height != number_at(s, at + 9, 8) {
-        return false;
-    }
-    if grows != (s[at + 18] == b'1') {
-        return false;
-    }
-    same_color(paper, color_at(s, at + 20))
+    width == number_at(s, at, 8)
+        && height == number_at(s, at + 9, 8)
+        && grows == (s[at + 18] == b'1')
+        && paper == color_at(s, at + 20)
 }

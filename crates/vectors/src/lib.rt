@@ -4,6 +4,7 @@
 pub mod buffers;
 pub mod hex;
 pub mod lines;
+pub mod replay;
 pub mod seeds;
 pub mod sums;
 

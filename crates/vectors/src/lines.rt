@@ -1,5 +1,5 @@
 // The lines of a list, and how many of them agree with this project.
-ghost use Rattle.std.specs.Prelude.{◌≡◌, ◌+◌, ◌<◌, ◌≤◌, ◌^◌, length};
+ghost use Rattle.std.specs.Prelude.{◌≡◌, ◌+◌, ◌<◌, ◌≤◌, ◌^◌, ◌==◌, length, position};
 ghost use Rattle.vectors.specs.Lines.{line_end, counted};
 
 use std::io;
@@ -9,14 +9,17 @@ pub fn line_end(s: &[u8], at: usize) -> usize
     requires { at < length s.now }
     ensures { (result ≡ line_end s.now at) × (at < result) × (result ≤ length s.now) }
 {
-    let mut i = at;
-    while i < s.len() {
-        if s[i] == b'\n' {
-            return i + 1;
-        }
-        i += 1;
+    match newline(&s[at..]) {
+        Some(i) => at + i + 1,
+        None => s.len(),
     }
-    i
+}
+
+// Where the first newline is, if there is one.
+fn newline(s: &[u8]) -> Option<usize>
+    ensures { result ≡ position (λ b. b == 10) s.now }
+{
+    s.iter().position(|b| *b == b'\n')
 }
 
 #[derive(Clone, Copy)]

@@ -7,11 +7,9 @@ pub fn fill_from(out: &mut [u8], count: usize, seed: u32)
     ensures { out.new ≡ seeded seed count ++ drop count out.old }
 {
     let mut state = seed;
-    let mut i = 0;
-    while i < count {
+    for byte in &mut out[..count] {
         state = next_state(state);
-        out[i] = seeded_byte(state, seed);
-        i += 1;
+        *byte = seeded_byte(state, seed);
     }
 }
 

@@ -1,6 +1,6 @@
 // The checksum of the lists: 32-bit FNV-1a.
 ghost use Rattle.std.specs.Prelude.{◌≡◌};
-ghost use Rattle.vectors.specs.Sums.{summed, checksum_of};
+ghost use Rattle.vectors.specs.Sums.{summed, sum_from, checksum_of};
 
 // The checksum of no bytes.
 pub const NO_BYTES: u32 = 0x811c_9dc5;
@@ -16,11 +16,12 @@ pub fn sum_with(sum: u32, byte: u8) -> u32
 pub fn checksum(bytes: &[u8]) -> u32
     ensures { result ≡ checksum_of bytes.now }
 {
-    let mut sum = NO_BYTES;
-    let mut i = 0;
-    while i < bytes.len() {
-        sum = sum_with(sum, bytes[i]);
-        i += 1;
-    }
-    sum
+    sum_all(NO_BYTES, bytes)
+}
+
+// The checksum with all of some bytes more.
+pub fn sum_all(sum: u32, bytes: &[u8]) -> u32
+    ensures { result ≡ sum_from sum bytes.now }
+{
+    bytes.iter().fold(sum, |sum, byte| sum_with(sum, *byte))
 }

@@ -1,7 +1,7 @@
 -- `listing::row_line` meets its contract. Assumes nothing.
-use mathlib.Core.List.{◌++◌}
+use Rattle.std.proofs.Common.{◌++◌}
 use Rattle.listing.specs.Listing.{ascii, part, row_line}
-use Rattle.listing.proofs.Lines.{Begun, begun-none, begun_more, begun-same, line_refused, line-put, row-size, row-parts}
+use Rattle.listing.proofs.Lines.{Begun, begun-none, begun_more, line_refused, line-put, row-size, row-parts}
 use Rattle.listing.proofs.row_line.Goals as goal
 use Rattle.listing.proofs.row_line.Goals.{After-slice_known-3-1}
 
@@ -12,9 +12,6 @@ begun c = let a = c.args in begun_more (begun_more (begun-none a.out.now) (part 
 pub returns-then-out-size : goal.returns-then-out-size
 returns-then-out-size c =
     let a = c.args in let r = line_refused (row_line a.row a.ink) a.out.now (row-size a.row a.ink c.digits_of.ensures.0 c.digits_of-2.ensures.0) c.if-out-size.true in record { value = r.0; out_after = r.1 }
-
-pub shape_of-out : goal.shape_of-out
-shape_of-out c = begun-same (begun (goal.at.shape_of-out c).After-slice_known-3-1)
 
 pub returns : goal.returns
 returns c =

@@ -1,34 +1,41 @@
--- `vectors::hex::is_record` meets its contract. Assumes nothing.
-use mathlib.Core.Path.{◌≡◌}
-use mathlib.Core.Bool.{beq, true, false}
-use Prim.Native.Nat.{◌+◌}
-use lib.ListN.{get_or}
-use lib.Dec.{eqb}
-use borrow.Author.Tests.{eq-eqb, ne_eqb, not-true, not-false}
-use Rattle.vectors.specs.Hex.{is_record}
+-- `vectors::hex::is_record` meets its contract.
+use Rattle.std.proofs.Common.{rules, sym, ap, ◌∙◌}
+use borrow.Author.Tests.{eq-eqb, ne_eqb}
+use Rattle.vectors.proofs.Colours.{same-color}
+use Rattle.vectors.specs.Hex.{same_color, is_record}
 use Rattle.vectors.proofs.hex.is_record.Goals as goal
-
-pub returns-then-width-number_at : goal.returns-then-width-number_at
-unfolding is_record
-returns-then-width-number_at c = rw (← c.number_at.ensures, ne_eqb _ _ c.if-width-number_at.true)
-
-pub returns-then-height-number_at : goal.returns-then-height-number_at
-unfolding is_record
-returns-then-height-number_at c =
-    rw (← c.number_at.ensures, eq-eqb _ _ c.if-width-number_at.false, ← c.number_at-2.ensures, ne_eqb _ _ c.if-height-number_at.true)
+use Rattle.vectors.proofs.hex.is_record.Goals.{then-width-number_at, else-width-number_at, then-height-number_at, else-height-number_at}
 
 pub returns-then-grows-s : goal.returns-then-grows-s
 unfolding is_record
 returns-then-grows-s c =
-    let a = c.args in
-    let g : beq a.grows (eqb (get_or a.s.now (a.at + 18) 0) 49) ≡ false = not-true _ c.if-grows-s.true in
-    rw (← c.number_at.ensures, eq-eqb _ _ c.if-width-number_at.false, ← c.number_at-2.ensures, eq-eqb _ _ c.if-height-number_at.false, g)
+    elim c.if-height-number_at.branch [
+      | then-height-number_at w ↦
+          elim c.if-width-number_at.branch [
+            | then-width-number_at v ↦
+                rw (← c.number_at.ensures, eq-eqb _ _ v.if-width-number_at.true, ← v.number_at-then-width-number_at.ensures, sym v.value-is ∙ w.if-height-number_at.true, sym w.value-is ∙ c.if-grows-s.true)
+                (c.eq.ensures ∙ same-color _ _ ∙ ap (same_color c.args.paper) c.color_at.ensures)
+            | else-width-number_at v ↦ absurd (search rules)
+          ]
+      | else-height-number_at w ↦ absurd (search rules)
+    ]
 
-pub returns : goal.returns
+pub returns-else-grows-s : goal.returns-else-grows-s
 unfolding is_record
-returns c =
-    let a = c.args in
-    let g : beq a.grows (eqb (get_or a.s.now (a.at + 18) 0) 49) ≡ true = not-false _ c.if-grows-s.false in
-    rw
-    (← c.number_at.ensures, eq-eqb _ _ c.if-width-number_at.false, ← c.number_at-2.ensures, eq-eqb _ _ c.if-height-number_at.false, g, ← c.color_at.ensures)
-    c.same_color.ensures
+returns-else-grows-s c =
+    elim c.if-height-number_at.branch [
+      | then-height-number_at w ↦
+          elim c.if-width-number_at.branch [
+            | then-width-number_at v ↦
+                rw (← c.number_at.ensures, eq-eqb _ _ v.if-width-number_at.true, ← v.number_at-then-width-number_at.ensures, sym v.value-is ∙ w.if-height-number_at.true, sym w.value-is ∙ c.if-grows-s.false)
+                c.if-grows-s.false
+            | else-width-number_at v ↦ absurd (search rules)
+          ]
+      | else-height-number_at w ↦
+          elim c.if-width-number_at.branch [
+            | then-width-number_at v ↦
+                rw (← c.number_at.ensures, eq-eqb _ _ v.if-width-number_at.true, ← v.number_at-then-width-number_at.ensures, sym v.value-is ∙ w.if-height-number_at.false)
+                c.if-grows-s.false
+            | else-width-number_at v ↦ rw (← c.number_at.ensures, ne_eqb _ _ v.if-width-number_at.false) c.if-grows-s.false
+          ]
+    ]

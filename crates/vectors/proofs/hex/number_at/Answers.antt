@@ -1,10 +1,6 @@
-use mathlib.Core.Path.{◌≡◌}
-use Prim.Native.Nat.{◌+◌}
-use native.Mathlib.Omega.{arith}
-use lib.ListN.{get_or}
+use Rattle.std.proofs.Common.{arith, rules, ◌+◌, slice_index_or}
 use Rattle.vectors.specs.Hex.{number_at}
 use Rattle.vectors.proofs.Digits.{digit-below, number-next, number-room}
-use borrow.Author.Rules.{rules}
 use Rattle.vectors.proofs.hex.number_at.Goals as goal
 
 pub loop-i-init : goal.loop-i-init
@@ -16,10 +12,7 @@ overflow_mul-n c = record { fits = omega (arith, number-room c.args.s.now c.args
 
 pub overflow_add-n : goal.overflow_add-n
 overflow_add-n c =
-    let s = c.args.s.now in let at = c.args.at in let i = c.loop-i.i in record { fits = omega (arith, number-room s at i (omega arith), digit-below (get_or s (at + i) 0)) }
+    let s = c.args.s.now in let at = c.args.at in let i = c.loop-i.i in record { fits = omega (arith, number-room s at i (omega arith), digit-below (slice_index_or s (at + i) 0)) }
 
 pub loop-i-preserved : goal.loop-i-preserved
-loop-i-preserved c = (omega arith, rw (number-next, ← c.loop-i.invariant.1, ← c.digit.ensures))
-
-pub returns : goal.returns
-returns c = let e : c.loop-i.i ≡ c.args.digits = omega arith in rw (← e) c.loop-i.invariant.1
+loop-i-preserved c = rw (number-next, ← c.loop-i.invariant, ← c.digit.ensures)

@@ -1,0 +1,47 @@
+// The listing on standard output. No contract can say what is written, so what is done here is to ask
+// and to write.
+ghost use Rattle.std.specs.Prelude.{◌≤◌};
+
+use super::{first_line, list_job, row_line};
+use std::io;
+
+// Only one row's dots are held. A translated plan keeps the plan rules, so no row is refused.
+pub fn print_listing(rt: &HostRuntime, job: &[u8]) -> io::Result<()>
+    ensures { Unit {0} }
+{
+    let t = list_job(job);
+    let mut bytes = [0; 65536];
+    let used = first_line(t, &mut bytes).unwrap_or(0);
+    let mut block = Block { bytes, used };
+    let mut line = [0; 65536];
+    for row in 0..t.plan.height {
+        let answer = rows::row(t.plan, row, job, &mut line);
+        block.put_row(rt, row, answer.ink)?;
+    }
+    block.write(rt)
+}
+
+// Text that is still to be written: the first `used` of these bytes.
+#[derive(Drop)]
+struct Block {
+    bytes: [u8; 65536],
+    used: usize,
+    ghost inside: { used ≤ 65536 },
+}
+
+impl Block {
+    // A row's line after the text, which is written where there is no room after it.
+    fn put_row(&mut self, rt: &HostRuntime, row: u32, ink: u32) -> io::Result<()> {
+        if let Ok(n) = row_line(row, ink, &mut self.bytes[self.used..]) {
+            self.used += n;
+            return Ok(());
+        }
+        self.write(rt)?;
+        self.used = row_line(row, ink, &mut self.bytes).unwrap_or(0);
+        Ok(())
+    }
+
+    fn write(&self, rt: &HostRuntime) -> io::Result<()> {
+        rt.write_all(&self.bytes[..self.used])
+    }
+}
