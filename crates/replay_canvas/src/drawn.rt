@@ -1,5 +1,6 @@
 // Calls that draw.
 use super::record::{LINE, image_at};
+use numbers::number;
 use thermal_image::Answer;
 use vectors::hex::{color_at, number_at};
 use vectors::seeds::fill_from;
@@ -41,7 +42,7 @@ pub fn filled(line: &[u8; LINE], buf: &mut [u8]) -> Answer {
         b'k' => drawing::put_rect(t, x, y, w, h, c, buf),
         b'v' => drawing::flip_pixels(t, x, y, w, h, buf),
         _ => Answer {
-            number: drawing::draw_border(w, h, c, buf),
+            number: number(drawing::draw_border(w, h, c, buf)),
             image: t,
         },
     }
