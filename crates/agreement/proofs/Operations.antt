@@ -21,7 +21,7 @@ use Rattle.job.proofs.Soundness.{Sane, sane-rectangle, sane-image, sane-margin, 
 use Rattle.job.proofs.Walk.{good, commands-sane}
 use Rattle.refusals.specs.Refusals.{canvas_refusal, room_refusal}
 use Rattle.thermal_image.specs.Canvas.{canvas, written}
-use Rattle.refusals.proofs.Codes.{first_some, first-none, first_done, room-done, rows-some, canvas-none}
+use Rattle.refusals.proofs.Codes.{first_some, first-none, first_done, room-done, rows-some, canvas-refusal-none}
 use Rattle.runs.specs.Pictures.{Picture, after, after_all, shown}
 use Rattle.runs.specs.Run.{run_refusal, run_picture, run_canvas, run_on}
 use Rattle.runs.proofs.Pictures.{length-shown}
@@ -55,7 +55,7 @@ module _ (s l : List ℕ) (outs : Command → List ℕ) (lent : (c : Command) �
   canvas-sound : (H : ℕ) (p : Picture) → H ≤ limit → 4 * (W * H) ≤ length l → canvas_refusal W H (length (shown W H p l)) ≡ done
   canvas-sound H p h r =
       rw (length-shown W H p l)
-      (canvas-none W H (length l) some wide h r)
+      (sym (canvas-refusal-none W H (length l) wide h {r = H} (sym (rows-some W H some)) (omega arith) (omega arith)))
 
   enough : (H : ℕ) (p : Picture) (H' : ℕ) → 4 * (W * H') ≤ length l → room_refusal W H' (length (shown W H p l)) ≡ done
   unfolding room_refusal

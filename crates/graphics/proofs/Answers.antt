@@ -4,10 +4,8 @@ use mathlib.Core.Bool.{Bool, false}
 use mathlib.Core.List.{List}
 use Prim.Native.Nat.{ℕ, ◌*◌, ◌≤◌, ◌<◌}
 use native.Mathlib.Omega.{arith}
-use borrow.Author.Tests.{ne_eqb, ltb-false}
-use Rattle.numbers.specs.declared.refusal.Refusal.{Refusal}
-use Rattle.numbers.specs.Numbers.{done, number_of}
-use Rattle.numbers.proofs.Refusals.{refused}
+use borrow.Author.Tests.{eq-eqb, ne_eqb, ltb-false}
+use Rattle.numbers.specs.Numbers.{done}
 use Rattle.colour.specs.declared.RGBA.{RGBA}
 use Rattle.images.specs.declared.formats.Format.{Format}
 use Rattle.images.specs.Formats.{bytes_of, raster_of}
@@ -20,26 +18,23 @@ use Rattle.graphics.proofs.Codes.{Layers}
 
 -- ---- the answer and the output
 
-module _ (why : Refusal) {k : ℕ} (e : number_of why ≡ k) (w h fx fy : ℕ) where
-  none : k ≡ done → ⊥
-  none z = omega (arith, refused why, e, z)
-
-  pub answer-refused : record { number = number_of why; w = 0; h = 0 } ≡ answer k w h fx fy
+module _ (number w h fx fy : ℕ) where
+  pub answer-refused : (number ≡ done → ⊥) → record { number = number; w = 0; h = 0 } ≡ answer number w h fx fy
   unfolding answer
-  answer-refused = rw (e, ne_eqb k done none)
+  answer-refused e = rw (ne_eqb number done e)
 
-  pub output-refused : (pixel : ℕ → ℕ → RGBA) (out : List ℕ) → out ≡ output k w h fx fy pixel out
-  unfolding output
-  output-refused pixel out = rw (ne_eqb k done none)
-
-module _ {k : ℕ} (e : done ≡ k) (w h fx fy : ℕ) where
-  pub answer-done : record { number = done; w = w * fx; h = h * fy } ≡ answer k w h fx fy
+  pub answer-done : number ≡ done → record { number = done; w = w * fx; h = h * fy } ≡ answer number w h fx fy
   unfolding answer
-  answer-done = rw (← e)
+  answer-done e = rw (eq-eqb number done e)
 
-  pub output-done : (pixel : ℕ → ℕ → RGBA) (out : List ℕ) {m : List ℕ} → m ≡ picture_on (w * fx) (h * fy) false pixel out → m ≡ output k w h fx fy pixel out
-  unfolding output picture_on landed
-  output-done pixel out em = rw (← e) em
+  module _ (pixel : ℕ → ℕ → RGBA) (out : List ℕ) where
+    pub output-refused : (number ≡ done → ⊥) → out ≡ output number w h fx fy pixel out
+    unfolding output
+    output-refused e = rw (ne_eqb number done e)
+
+    pub output-done : number ≡ done → {m : List ℕ} → m ≡ picture_on (w * fx) (h * fy) false pixel out → m ≡ output number w h fx fy pixel out
+    unfolding output picture_on landed
+    output-done e em = rw (eq-eqb number done e) em
 
 -- ---- what the inner steps ask for
 

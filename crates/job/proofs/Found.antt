@@ -4,7 +4,7 @@ use mathlib.Core.Path.{◌≡◌, refl, ap, ◌∙◌}
 use mathlib.Core.List.{List}
 use mathlib.Core.Bool.{Bool, true, false, ◌||◌}
 use native.Mathlib.Omega.{arith}
-use borrow.Author.Tests.{le-leb, leb-true, leb-false, ltb-false}
+use borrow.Author.Tests.{le-ltb, lt-ltb, le-leb, lt-leb, leb-true, leb-false, ltb-false}
 use lib.ListN.{length}
 use lib.Dec.{ltb, leb}
 use Rattle.std.specs.Prelude.{if◌then◌else◌}
@@ -17,6 +17,24 @@ use Rattle.job.specs.Records.{le16, le32, record_at, Records, ended, broken, rec
 pub is-end : (s : List ℕ) (at : ℕ) → length s ≤ at → End ≡ record_at s at
 unfolding record_at
 is-end s at h = rw (le-leb _ _ h)
+
+module _ (s : List ℕ) (at : ℕ) where
+  pub is-short : at < length s → length s < at + 6 → Bad ≡ record_at s at
+  unfolding record_at
+  is-short h g = rw (lt-leb (length s) at h, lt-ltb (length s) (at + 6) g)
+
+  module _ {n : ℕ} (h : at + 6 ≤ length s) (e : n ≡ le32 s at) where
+    pub is-small : n < 2 → Bad ≡ record_at s at
+    unfolding record_at
+    is-small g = rw (lt-leb (length s) at (omega arith), le-ltb (length s) (at + 6) h, lt-ltb (le32 s at) 2 (omega arith))
+
+    pub is_cut : 2 ≤ n → length s < at + 4 + n → Bad ≡ record_at s at
+    unfolding record_at
+    is_cut f g = rw (lt-leb (length s) at (omega arith), le-ltb (length s) (at + 6) h, le-ltb (le32 s at) 2 (omega arith), lt-ltb (length s) (at + 4 + le32 s at) (omega arith))
+
+    pub is-record : {k : ℕ} → k ≡ le16 s (at + 4) → 2 ≤ n → at + 4 + n ≤ length s → Record k (at + 6) (n - 2) (at + 4 + n) ≡ record_at s at
+    unfolding record_at
+    is-record d f g = rw (lt-leb (length s) at (omega arith), le-ltb (length s) (at + 6) h, le-ltb (le32 s at) 2 (omega arith), le-ltb (length s) (at + 4 + le32 s at) (omega arith), e, d)
 
 -- ---- what is known where each was found
 

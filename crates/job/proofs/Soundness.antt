@@ -1,10 +1,10 @@
 -- What soundness says of the paper and of each command. Assumes nothing.
-use Prim.Native.Nat.{ℕ, ◌+◌, ◌-◌, ◌≤◌}
+use Prim.Native.Nat.{ℕ, ◌+◌, ◌-◌, ◌≤◌, ◌<◌}
 use mathlib.Core.Path.{◌≡◌, refl}
 use mathlib.Core.List.{List, [], ◌∷◌}
 use mathlib.Core.Bool.{Bool, true, false, ◌&&◌}
 use native.Mathlib.Omega.{arith}
-use borrow.Author.Tests.{leb-true, eqb-true}
+use borrow.Author.Tests.{leb-true, eqb-true, eq-eqb, ne_eqb, le-leb, lt-leb}
 use lib.Dec.{leb, eqb}
 use lib.ListN.{length}
 use Rattle.numbers.specs.Numbers.{limit}
@@ -20,6 +20,24 @@ use Rattle.job.proofs.Found.{Inside, in-ended, in-broken, in-rec}
 -- ---- the paper
 
 module _ (s : List ℕ) (kind at n : ℕ) where
+  pub paper-other : (kind ≡ paper_kind → ⊥) → false ≡ sound_paper s kind at n
+  unfolding sound_paper
+  paper-other a = rw (ne_eqb kind paper_kind a)
+
+  module _ (k : kind ≡ paper_kind) where
+    pub paper-sized : (n ≡ paper_size → ⊥) → false ≡ sound_paper s kind at n
+    unfolding sound_paper
+    paper-sized a = rw (eq-eqb kind paper_kind k, ne_eqb n paper_size a)
+
+    module _ (z : n ≡ paper_size) {w : ℕ} (e : w ≡ le32 s at) where
+      pub paper-narrow : w < 1 → false ≡ sound_paper s kind at n
+      unfolding sound_paper
+      paper-narrow a = rw (eq-eqb kind paper_kind k, eq-eqb n paper_size z, lt-leb 1 (le32 s at) (omega arith))
+
+      pub paper-last : 1 ≤ w → leb w limit ≡ sound_paper s kind at n
+      unfolding sound_paper
+      paper-last a = rw (eq-eqb kind paper_kind k, eq-eqb n paper_size z, le-leb 1 (le32 s at) (omega arith), e)
+
   pub record Paper : Type 0 where
     pub is-paper : kind ≡ paper_kind
     pub size : n ≡ paper_size
@@ -33,6 +51,73 @@ module _ (s : List ℕ) (kind at n : ℕ) where
       let b = and_both (eqb kind paper_kind && eqb n paper_size) (leb 1 (le32 s at)) a.0 in
       let c = and_both (eqb kind paper_kind) (eqb n paper_size) b.0 in
       record { is-paper = eqb-true _ _ c.0; size = eqb-true _ _ c.1; some = leb-true _ _ b.1; wide = leb-true _ _ a.1 }
+
+-- ---- the tests of a command, as the code makes them
+
+module _ (s : List ℕ) (kind at n : ℕ) where
+  pub rectangle-sound : kind ≡ rectangle_kind → n ≡ rectangle_size → sound_mode (byte_at s (at + 20)) ≡ sound_command s kind at n
+  unfolding sound_command
+  rectangle-sound a b = rw (eq-eqb kind rectangle_kind a, eq-eqb n rectangle_size b)
+
+  pub rectangle-sized : kind ≡ rectangle_kind → (n ≡ rectangle_size → ⊥) → false ≡ sound_command s kind at n
+  unfolding sound_command
+  rectangle-sized a b = rw (eq-eqb kind rectangle_kind a, ne_eqb n rectangle_size b)
+
+  pub image-sound : kind ≡ image_kind → image_size ≤ n → sound_mode (byte_at s (at + 22)) ≡ sound_command s kind at n
+  unfolding sound_command
+  image-sound a b = rw (ne_eqb kind rectangle_kind (λ z. omega arith), eq-eqb kind image_kind a, le-leb image_size n b)
+
+  pub image-sized : kind ≡ image_kind → n < image_size → false ≡ sound_command s kind at n
+  unfolding sound_command
+  image-sized a b = rw (ne_eqb kind rectangle_kind (λ z. omega arith), eq-eqb kind image_kind a, lt-leb image_size n b)
+
+  pub margin-sound : kind ≡ margin_kind → eqb n margin_size ≡ sound_command s kind at n
+  unfolding sound_command
+  margin-sound a = rw (ne_eqb kind rectangle_kind (λ z. omega arith), ne_eqb kind image_kind (λ z. omega arith), eq-eqb kind margin_kind a)
+
+  -- neither a rectangle nor an image nor a margin
+  module _ (a : kind ≡ rectangle_kind → ⊥) (b : kind ≡ image_kind → ⊥) (d : kind ≡ margin_kind → ⊥) where
+    pub flip-sound : kind ≡ flip_kind → eqb n flip_size ≡ sound_command s kind at n
+    unfolding sound_command
+    flip-sound e = rw (ne_eqb kind rectangle_kind a, ne_eqb kind image_kind b, ne_eqb kind margin_kind d, eq-eqb kind flip_kind e)
+
+    pub other-kind : (kind ≡ flip_kind → ⊥) → false ≡ sound_command s kind at n
+    unfolding sound_command
+    other-kind e = rw (ne_eqb kind rectangle_kind a, ne_eqb kind image_kind b, ne_eqb kind margin_kind d, ne_eqb kind flip_kind e)
+
+    pub flip-size : sound_command s kind at n ≡ true → n ≡ flip_size
+    unfolding sound_command
+    flip-size e = eqb-true _ _ (and_both (eqb kind flip_kind) _ (rw (ne_eqb kind rectangle_kind a, ne_eqb kind image_kind b, ne_eqb kind margin_kind d) at e)).1
+
+    pub is-flip : flip_at s at ≡ command_at s kind at n
+    unfolding command_at
+    is-flip = rw (ne_eqb kind rectangle_kind a, ne_eqb kind image_kind b, ne_eqb kind margin_kind d)
+
+  -- ---- what soundness says of the size, and the command of a kind
+
+  pub rectangle-size : sound_command s kind at n ≡ true → kind ≡ rectangle_kind → n ≡ rectangle_size
+  unfolding sound_command
+  rectangle-size e a = eqb-true _ _ (and_both (eqb n rectangle_size) _ (rw (eq-eqb kind rectangle_kind a) at e)).0
+
+  pub image-size : sound_command s kind at n ≡ true → kind ≡ image_kind → image_size ≤ n
+  unfolding sound_command
+  image-size e a = leb-true _ _ (and_both (leb image_size n) _ (rw (ne_eqb kind rectangle_kind (λ z. omega arith), eq-eqb kind image_kind a) at e)).0
+
+  pub margin-size : sound_command s kind at n ≡ true → kind ≡ margin_kind → n ≡ margin_size
+  unfolding sound_command
+  margin-size e a = eqb-true _ _ (rw (ne_eqb kind rectangle_kind (λ z. omega arith), ne_eqb kind image_kind (λ z. omega arith), eq-eqb kind margin_kind a) at e)
+
+  pub is-rectangle : kind ≡ rectangle_kind → rectangle_at s at ≡ command_at s kind at n
+  unfolding command_at
+  is-rectangle a = rw (eq-eqb kind rectangle_kind a)
+
+  pub is-image : kind ≡ image_kind → image_at s at n ≡ command_at s kind at n
+  unfolding command_at
+  is-image a = rw (ne_eqb kind rectangle_kind (λ z. omega arith), eq-eqb kind image_kind a)
+
+  pub is-margin : kind ≡ margin_kind → Margin (le32 s at) ≡ command_at s kind at n
+  unfolding command_at
+  is-margin a = rw (ne_eqb kind rectangle_kind (λ z. omega arith), ne_eqb kind image_kind (λ z. omega arith), eq-eqb kind margin_kind a)
 
 -- ---- a command of a sound record: its mode is one, its stretches are bytes and its bit rows lie in the job
 

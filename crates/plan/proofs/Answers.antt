@@ -1,15 +1,13 @@
 -- What the functions of a translation answer. Assumes nothing.
 use Prim.Native.Nat.{ℕ, ◌+◌, ◌*◌, ◌≤◌, max}
-use mathlib.Core.Path.{◌≡◌, refl, ◌∙◌}
+use mathlib.Core.Path.{◌≡◌, refl, sym, ◌∙◌}
 use mathlib.Core.List.{List, []}
 use mathlib.Core.Bool.{true, false}
 use native.Mathlib.Numerals.{add-one}
-use borrow.Author.Tests.{ne_eqb}
+use borrow.Author.Tests.{eq-eqb, ne_eqb}
 use lib.ListN.{get_or, set}
-use native.Mathlib.Omega.{arith}
-use Rattle.numbers.specs.declared.refusal.Refusal.{Refusal}
-use Rattle.numbers.specs.Numbers.{done, not_translated, number_of}
-use Rattle.numbers.proofs.Refusals.{refused}
+use Rattle.numbers.specs.Numbers.{done, not_translated}
+use Rattle.colour.specs.Colour.{blank}
 use Rattle.colour.specs.declared.RGBA.{RGBA}
 use Rattle.images.specs.Stretching.{factor}
 use Rattle.job.specs.declared.commands.Command.{Command}
@@ -20,7 +18,7 @@ use Rattle.entries.specs.declared.Entry.{Entry}
 use Rattle.plan.specs.declared.Plan.{Plan}
 use Rattle.plan.specs.declared.Translated.{Translated}
 use Rattle.entries.specs.Entries.{rectangle_entry, image_entry}
-use Rattle.plan.specs.Plan.{lower, no_entry, plan_with, plan_of, has_flip, translate_refusal, refused_with, translated}
+use Rattle.plan.specs.Plan.{lower, no_entry, plan_with, plan_of, has_flip, translate_refusal, translated}
 use Rattle.plan.specs.Steps.{lowered_entries, with_entries, pushed, left_out, planned, stepped}
 use Rattle.plan.proofs.Listed.{set-lowered}
 
@@ -57,35 +55,36 @@ lower-step {p} p₀ h n m i e = rw (e, add-one, ← set-lowered m i p₀.entries
 
 -- ---- a step
 
-module _ (p : Plan) (k : ℕ) (d : Command) where
-  pub step-out : (why : Refusal) → number_of why ≡ reason_of p.width p.height d → {r : Plan} → r ≡ left_out p k (number_of why) → r ≡ stepped p k d
+module _ (p : Plan) (k : ℕ) (d : Command) {why : ℕ} (e : why ≡ reason_of p.width p.height d) where
+  pub step-out : (why ≡ done → ⊥) → {r : Plan} → r ≡ left_out p k why → r ≡ stepped p k d
   unfolding stepped
-  step-out why e g = g ∙ rw (ne_eqb (reason_of p.width p.height d) done (λ z. omega (arith, refused why, e, z)), e)
+  step-out n g = g ∙ rw (ne_eqb (reason_of p.width p.height d) done (λ z. n (e ∙ z)), e)
 
-  module _ (e : done ≡ reason_of p.width p.height d) where
-    pub step_in : {r : Plan} {d' : Command} → d ≡ d' → r ≡ planned p d' → r ≡ stepped p k d
-    unfolding stepped
-    step_in q g = g ∙ rw (← e, q)
+  pub step_in : why ≡ done → {r : Plan} {d' : Command} → d ≡ d' → r ≡ planned p d' → r ≡ stepped p k d
+  unfolding stepped
+  step_in z q g = g ∙ rw (eq-eqb (reason_of p.width p.height d) done (sym e ∙ z), q)
 
-    pub step-flip : {x y w h : ℕ} → d ≡ Flip x y w h → p ≡ stepped p k d
-    unfolding stepped planned
-    step-flip q = rw (← e, q)
+  pub step-flip : why ≡ done → {x y w h : ℕ} → d ≡ Flip x y w h → p ≡ stepped p k d
+  unfolding stepped planned
+  step-flip z q = rw (eq-eqb (reason_of p.width p.height d) done (sym e ∙ z), q)
+
+  pub kept_of : why ≡ done → reason_of p.width p.height d ≡ done
+  kept_of z = sym e ∙ z
 
 -- ---- the answer of a translation
 
-module _ (s : List ℕ) where
-  pub refused-job : (why : Refusal) → number_of why ≡ job_refusal s → {t : Translated} → t ≡ refused_with (number_of why) → t ≡ translated s
+module _ (s : List ℕ) {number : ℕ} (e : number ≡ job_refusal s) where
+  pub refused-job : (number ≡ done → ⊥) → {p : Plan} → p ≡ plan_with 0 blank 0 [] [] → ◌≡◌ {A = Translated} (record { number = number; plan = p }) (translated s)
   unfolding translated translate_refusal
-  refused-job why e q = q ∙ (let n : job_refusal s ≡ done → ⊥ = λ z. omega (arith, refused why, e, z) in rw (ne_eqb (job_refusal s) done n, ne_eqb (job_refusal s) done n, e))
+  refused-job n q = rw (q, ← e, ne_eqb number done n, ne_eqb number done n)
 
-  module _ (e : done ≡ job_refusal s) where
-    pub refused-flip : true ≡ has_flip (commands s) → {t : Translated} → t ≡ refused_with not_translated → t ≡ translated s
-    unfolding translated translate_refusal
-    refused-flip h q = q ∙ rw (← e, ← h)
+  pub refused-flip : number ≡ done → true ≡ has_flip (commands s) → {p : Plan} → p ≡ plan_with 0 blank 0 [] [] → ◌≡◌ {A = Translated} (record { number = not_translated; plan = p }) (translated s)
+  unfolding translated translate_refusal
+  refused-flip z h q = rw (q, ← e, z, ← h)
 
-    pub given-plan : false ≡ has_flip (commands s) → {p : Plan} → p ≡ plan_of s → ◌≡◌ {A = Translated} (record { number = done; plan = p }) (translated s)
-    unfolding translated translate_refusal
-    given-plan h q = rw (q, ← e, ← h)
+  pub given-plan : number ≡ done → false ≡ has_flip (commands s) → {p : Plan} → p ≡ plan_of s → ◌≡◌ {A = Translated} (record { number = done; plan = p }) (translated s)
+  unfolding translated translate_refusal
+  given-plan z h q = rw (q, ← e, z, ← h)
 
 pub plan-with : {p : Plan} {w v : ℕ} {c b : RGBA} → w ≡ v → c ≡ b → p ≡ plan_with w c 0 [] [] → p ≡ plan_with v b 0 [] []
 plan-with e f g = g ∙ rw (e, f)

@@ -3,12 +3,12 @@ use mathlib.Core.Path.{◌≡◌, refl, sym, ◌∙◌}
 use Rattle.std.proofs.Common.{Result}
 use Rattle.std.specs.Result.{IsErrAnd}
 use mathlib.Core.Bool.{Bool, true, false, not, ◌&&◌, ◌||◌}
-use Prim.Native.Nat.{ℕ, ◌+◌, ◌*◌, ◌≤◌, ◌<◌, max}
+use Prim.Native.Nat.{ℕ, ◌+◌, ◌*◌, ◌/◌, ◌≤◌, ◌<◌, max}
 use native.Mathlib.Omega.{arith}
 use lib.Dec.{ltb, leb, eqb}
-use borrow.Author.Tests.{ltb-false, leb-false, eqb-true, eqb-false, lt-leb, eq-eqb, ne_eqb, le-ltb}
+use borrow.Author.Tests.{ltb-false, leb-false, eqb-true, eqb-false, lt-ltb, lt-leb, eq-eqb, ne_eqb, le-ltb}
 use Rattle.numbers.specs.declared.refusal.Refusal.{Refusal}
-use Rattle.numbers.specs.Numbers.{limit, done, number_of, number}
+use Rattle.numbers.specs.Numbers.{limit, done, bad_canvas, number_of, number}
 use Rattle.numbers.proofs.Refusals.{refused, handed}
 use Rattle.std.specs.Prelude.{if◌then◌else◌}
 use Rattle.colour.proofs.Tests.{neither}
@@ -23,6 +23,14 @@ first_some a b e = rw (ne_eqb a done e)
 pub first-none : (a b : ℕ) → a ≡ done → b ≡ first a b
 unfolding first
 first-none a b e = rw (eq-eqb a done e)
+
+pub first-last : (a : ℕ) → a ≡ first a done
+unfolding first
+first-last a = go (eqb a done) refl
+  where
+    go : (t : Bool) → eqb a done ≡ t → a ≡ (if t then done else a)
+    go true e = eqb-true a done e
+    go false e = refl
 
 pub first_done : (a b : ℕ) → first a b ≡ done → (a ≡ done) × (b ≡ done)
 unfolding first
@@ -104,10 +112,30 @@ pub rows-some : (W H : ℕ) → 0 < W → rows_of W H ≡ H
 unfolding rows_of
 rows-some W H h = rw (ne_eqb W 0 (λ e. omega arith))
 
--- a canvas with a width, within the limit and with room
-pub canvas-none : (W H n : ℕ) → 0 < W → W ≤ limit → H ≤ limit → 4 * (W * H) ≤ n → canvas_refusal W H n ≡ done
-unfolding canvas_refusal
-canvas-none W H n some a b r = rw (le-ltb _ _ a, le-ltb _ _ b, ne_eqb W 0 (λ e. omega arith), le-ltb n (4 * (W * H)) r)
+-- the height without a width
+pub flat-test : (w h : ℕ) → ltb (rows_of w h) h ≡ (eqb w 0 && ltb 0 h)
+unfolding rows_of
+flat-test w h = go (eqb w 0)
+  where
+    go : (t : Bool) → ltb (if t then 0 else h) h ≡ (t && ltb 0 h)
+    go true = refl
+    go false = le-ltb h h (omega arith)
+
+-- the last tests, by the rows that the code works out
+module _ (w h n : ℕ) (a : w ≤ limit) (b : h ≤ limit) {r : ℕ} (e : r ≡ rows_of w h) where
+  pub canvas-refusal-flat : r < h → bad_canvas ≡ canvas_refusal w h n
+  unfolding canvas_refusal
+  canvas-refusal-flat l = rw (le-ltb _ _ a, le-ltb _ _ b, ← flat-test w h, ← e, lt-ltb _ _ l)
+
+  pub canvas-refusal-short : h ≤ r → n / 4 < w * h → bad_canvas ≡ canvas_refusal w h n
+  unfolding canvas_refusal
+  canvas-refusal-short l s =
+      rw (le-ltb _ _ a, le-ltb _ _ b, ← flat-test w h, ← e, le-ltb _ _ l, lt-ltb n (4 * (w * h)) (omega arith))
+
+  pub canvas-refusal-none : h ≤ r → w * h ≤ n / 4 → done ≡ canvas_refusal w h n
+  unfolding canvas_refusal
+  canvas-refusal-none l s =
+      rw (le-ltb _ _ a, le-ltb _ _ b, ← flat-test w h, ← e, le-ltb _ _ l, le-ltb n (4 * (w * h)) (omega arith))
 
 pub record Sound (W H n : ℕ) : Type 0 where
   pub width : W ≤ limit

@@ -1,46 +1,43 @@
--- What an entry's definitions come to, refused and done: k is the number that 01 gives. Assumes nothing.
-use Rattle.std.proofs.Common.{◌≡◌, ℕ, List, arith, ◌∙◌}
+-- What an entry's definitions come to, refused and done. `number` is the number that the code worked out, k the one that 01 gives. Assumes nothing.
+use mathlib.Core.Path.{◌≡◌, ◌∙◌}
+use mathlib.Core.List.{List}
+use Prim.Native.Nat.{ℕ}
 use borrow.Author.Tests.{ne_eqb}
-use Rattle.numbers.specs.declared.refusal.Refusal.{Refusal}
-use Rattle.numbers.specs.Numbers.{done, number_of}
-use Rattle.numbers.proofs.Refusals as numbers
+use Rattle.numbers.specs.Numbers.{done}
 use Rattle.thermal_image.specs.declared.ThermalImage.{ThermalImage}
 use Rattle.thermal_image.specs.declared.Answer.{Answer}
-use Rattle.thermal_image.specs.Canvas.{sized, finished, refused, answered, written, copy_answer, rgb_answer}
+use Rattle.thermal_image.specs.Canvas.{sized, finished, answered, written, copy_answer, rgb_answer}
 
-module _ (why : Refusal) {k : ℕ} (e : number_of why ≡ k) where
-  none : k ≡ done → ⊥
-  none z = omega (arith, numbers.refused why, e, z)
-
-  pub refuses : (t next : ThermalImage) {r : Answer} → r ≡ refused (number_of why) t → r ≡ answered k t next
+module _ {number k : ℕ} (e : number ≡ k) where
+  pub refused : (t next : ThermalImage) → (number ≡ done → ⊥) → record { number = number; image = t } ≡ answered k t next
   unfolding answered
-  refuses t next er = er ∙ rw (e, ne_eqb k done none)
+  refused t next n = rw (← e, ne_eqb number done n)
 
-  pub keeps : (l next : List ℕ) → l ≡ written k l next
-  unfolding written
-  keeps l next = rw (ne_eqb k done none)
-
-  pub copy-refuses : (t : ThermalImage) → record { number = number_of why; width = 0; height = 0 } ≡ copy_answer k t
-  unfolding copy_answer
-  copy-refuses t = rw (e, ne_eqb k done none)
-
-  pub rgb-refuses : (t : ThermalImage) → record { number = number_of why; image = t; width = 0; height = 0 } ≡ rgb_answer k t
-  unfolding rgb_answer
-  rgb-refuses t = rw (e, ne_eqb k done none)
-
-module _ {k : ℕ} (e : done ≡ k) where
-  pub did : (t next : ThermalImage) {r : Answer} → r ≡ finished next → r ≡ answered k t next
+  pub did : (t next : ThermalImage) → number ≡ done → {r : Answer} → r ≡ finished next → r ≡ answered k t next
   unfolding answered
-  did t next er = er ∙ rw (← e)
+  did t next n er = er ∙ rw (← e, n)
 
-  pub changes : (l next : List ℕ) {m : List ℕ} → m ≡ next → m ≡ written k l next
+  pub kept : (l next : List ℕ) → (number ≡ done → ⊥) → l ≡ written k l next
   unfolding written
-  changes l next em = em ∙ rw (← e)
+  kept l next n = rw (← e, ne_eqb number done n)
 
-  pub copy-did : (t : ThermalImage) → record { number = done; width = t.width; height = t.height } ≡ copy_answer k t
+  pub changed : (l next : List ℕ) → number ≡ done → {m : List ℕ} → m ≡ next → m ≡ written k l next
+  unfolding written
+  changed l next n em = em ∙ rw (← e, n)
+
+  pub copy-refused : (t : ThermalImage) → (number ≡ done → ⊥) → record { number = number; width = 0; height = 0 } ≡ copy_answer k t
   unfolding copy_answer
-  copy-did t = rw (← e)
+  copy-refused t n = rw (← e, ne_eqb number done n)
 
-  pub rgb-did : (t : ThermalImage) {a : Answer} → a ≡ finished (sized t 0 0) → record { number = done; image = a.image; width = t.width; height = t.height } ≡ rgb_answer k t
+  pub copy-did : (t : ThermalImage) → number ≡ done → record { number = done; width = t.width; height = t.height } ≡ copy_answer k t
+  unfolding copy_answer
+  copy-did t n = rw (← e, n)
+
+  pub rgb-refused : (t : ThermalImage) → (number ≡ done → ⊥) → record { number = number; image = t; width = 0; height = 0 } ≡ rgb_answer k t
   unfolding rgb_answer
-  rgb-did t ea = rw (ea, ← e)
+  rgb-refused t n = rw (← e, ne_eqb number done n)
+
+  pub rgb-did : (t : ThermalImage) → number ≡ done → {a : Answer} → a ≡ finished (sized t 0 0)
+      → record { number = done; image = a.image; width = t.width; height = t.height } ≡ rgb_answer k t
+  unfolding rgb_answer
+  rgb-did t n ea = rw (ea, ← e, n)

@@ -1,3 +1,5 @@
+use Rattle.numbers.proofs.Refusals.{never}
+use Rattle.std.proofs.Common.{refl}
 use mathlib.Core.Path.{sym, ◌∙◌}
 use Prim.Native.Nat.{◌≤◌, ◌<◌}
 use native.Mathlib.Omega.{arith}
@@ -21,7 +23,7 @@ refusal_of-requires c = ((range (goal.at.refusal_of-requires c).After-factor_of-
 pub returns-in-Err : goal.returns-in-Err
 unfolding decoded decoded_on
 returns-in-Err c =
-    let e = c.in-Err.ensures in record { value = c.refused.ensures ∙ rw (← c.factor_of-fx.ensures, ← c.factor_of-fy.ensures) (answer-refused _ e _ _ _ _); out_after = rw (← c.factor_of-fx.ensures, ← c.factor_of-fy.ensures) (output-refused _ e _ _ _ _ _ _) }
+    let e = c.in-Err.ensures in record { value = c.refused.ensures ∙ rw (← c.factor_of-fx.ensures, ← c.factor_of-fy.ensures, ← e) (answer-refused _ _ _ _ _ (never _)); out_after = rw (← c.factor_of-fx.ensures, ← c.factor_of-fy.ensures, ← e) (output-refused _ _ _ _ _ _ _ (never _)) }
 
 pub decode_single_color-requires : goal.decode_single_color-requires
 decode_single_color-requires c =
@@ -37,4 +39,4 @@ overflow_mul-result-2 c = omega (arith, (single-done _ _ _ _ _ _ _ (sym c.in_def
 pub returns : goal.returns
 unfolding decoded decoded_on source_pixel
 returns c =
-    let e = c.in_default.ensures in record { value = rw (← c.factor_of-fx.ensures, ← c.factor_of-fy.ensures) (answer-done e _ _ _ _); out_after = rw (← c.factor_of-fx.ensures, ← c.factor_of-fy.ensures) (output-done e _ _ _ _ _ _ c.decode_single_color.ensures) }
+    let e = c.in_default.ensures in record { value = rw (← c.factor_of-fx.ensures, ← c.factor_of-fy.ensures, ← e) (answer-done _ _ _ _ _ refl); out_after = rw (← c.factor_of-fx.ensures, ← c.factor_of-fy.ensures, ← e) (output-done _ _ _ _ _ _ _ refl c.decode_single_color.ensures) }

@@ -1,8 +1,10 @@
+use Rattle.std.proofs.Common.{refl}
+use Rattle.numbers.proofs.Refusals.{never}
 use mathlib.Core.Path.{◌≡◌, sym, ◌∙◌}
 use native.Mathlib.Omega.{arith}
 use lib.ListN.{length}
 use Rattle.areas.proofs.Laws.{area-fits}
-use Rattle.thermal_image.proofs.Answers.{refuses, did, keeps, changes}
+use Rattle.thermal_image.proofs.Answers.{refused, did, kept, changed}
 use Rattle.places.specs.Places.{image_refusal}
 use Rattle.drawing.specs.Drawing.{drew, image_put, image_placed, image_on}
 use Rattle.places.proofs.Codes.{image-ready, flips-across, flips-down}
@@ -14,12 +16,12 @@ use Rattle.drawing.proofs.put.put_render_img.Goals.{After-put_on-answer}
 put-answer : (c : After-put_on-answer) → let p = c.args in
     c.put_on-answer.result ≡ image_put p.upside_down p.image p.x p.y p.w p.h (length p.pixels.now) (length p.buf.now)
 unfolding image_refusal image_put drew
-put-answer c = let e = c.image_tall-rows.ensures in did (rw e at c.in_default.ensures) _ _ (c.put_on-answer.ensures.value ∙ rw e)
+put-answer c = let e = c.image_tall-rows.ensures in did (rw e at c.in_default.ensures) _ _ refl (c.put_on-answer.ensures.value ∙ rw e)
 
 pub returns-in-Err : goal.returns-in-Err
 unfolding image_put drew image_on image_refusal
 returns-in-Err c =
-    let g = rw c.image_tall-rows.ensures at c.in-Err.ensures in record { value = refuses _ g _ _ c.refused.ensures; buf_after = keeps _ g _ _ }
+    let g = rw c.image_tall-rows.ensures at c.in-Err.ensures in record { value = c.refused.ensures ∙ refused g _ _ (never _); buf_after = kept g _ _ (never _) }
 
 pub put_on-answer-requires : goal.put_on-answer-requires
 put_on-answer-requires c = image-ready _ _ _ _ _ _ _ _ c.image_tall-rows.ensures (sym c.in_default.ensures)
@@ -33,13 +35,13 @@ flip_area-requires c =
 pub returns-then-flips : goal.returns-then-flips
 unfolding image_on image_placed image_refusal
 returns-then-flips c =
-    let e = c.image_tall-rows.ensures in record { value = put-answer (goal.at.returns-then-flips c).After-put_on-answer; buf_after = changes (rw e at c.in_default.ensures) _ _ (c.flip_area.ensures ∙ rw (c.put_on-answer.ensures.buf_after, e, ← c.flips.ensures, c.if-flips.true)) }
+    let e = c.image_tall-rows.ensures in record { value = put-answer (goal.at.returns-then-flips c).After-put_on-answer; buf_after = changed (rw e at c.in_default.ensures) _ _ refl (c.flip_area.ensures ∙ rw (c.put_on-answer.ensures.buf_after, e, ← c.flips.ensures, c.if-flips.true)) }
 
 pub returns : goal.returns
 unfolding image_on image_placed image_refusal
 returns c =
     record {
       value = put-answer (goal.at.returns c).After-put_on-answer;
-      buf_after = changes (rw c.image_tall-rows.ensures at c.in_default.ensures) _ _
+      buf_after = changed (rw c.image_tall-rows.ensures at c.in_default.ensures) _ _ refl
           (c.put_on-answer.ensures.buf_after ∙ rw (c.image_tall-rows.ensures, ← c.flips.ensures, c.if-flips.false));
     }

@@ -1,4 +1,5 @@
-use Rattle.std.proofs.Common.{sym}
+use Rattle.numbers.proofs.Refusals.{never}
+use Rattle.std.proofs.Common.{refl, sym}
 use native.Mathlib.Omega.{arith}
 use Rattle.job.proofs.Reasons.{rectangle-kept, stretched-kept, margin-kept}
 use Rattle.plan.specs.Steps.{planned}
@@ -6,7 +7,7 @@ use Rattle.plan.proofs.Answers.{rectangle-planned, rectangle-end, image-planned,
 use Rattle.plan.proofs.steps.step.Goals as goal
 
 pub returns-in-Err : goal.returns-in-Err
-returns-in-Err c = step-out _ _ _ _ c.in-Err.ensures c.leave_out.ensures
+returns-in-Err c = step-out _ _ _ c.in-Err.ensures (never _) c.leave_out.ensures
 
 pub rectangle-e-requires : goal.rectangle-e-requires
 rectangle-e-requires c =
@@ -30,16 +31,16 @@ shift-requires c =
 
 pub returns-in-Rectangle : goal.returns-in-Rectangle
 returns-in-Rectangle c =
-    step_in _ _ _ c.in_default.ensures c.in-Rectangle.is (rectangle-planned _ c.push.ensures _ _ _ _ _ _ c.rectangle-e.ensures)
+    step_in _ _ _ c.in_default.ensures refl c.in-Rectangle.is (rectangle-planned _ c.push.ensures _ _ _ _ _ _ c.rectangle-e.ensures)
 
 pub returns-in-Image : goal.returns-in-Image
 returns-in-Image c =
-    step_in _ _ _ c.in_default.ensures c.in-Image.is (image-planned _ c.push-in-Image.ensures _ _ _ _ _ _ _ _ _ _ c.image-e.ensures)
+    step_in _ _ _ c.in_default.ensures refl c.in-Image.is (image-planned _ c.push-in-Image.ensures _ _ _ _ _ _ _ _ _ _ c.image-e.ensures)
 
 pub returns-in-Margin : goal.returns-in-Margin
 unfolding planned
 returns-in-Margin c =
-    step_in _ _ _ c.in_default.ensures c.in-Margin.is c.shift.ensures
+    step_in _ _ _ c.in_default.ensures refl c.in-Margin.is c.shift.ensures
 
 pub returns-in-Flip : goal.returns-in-Flip
-returns-in-Flip c = step-flip _ _ _ c.in_default.ensures c.in-Flip.is
+returns-in-Flip c = step-flip _ _ _ c.in_default.ensures refl c.in-Flip.is

@@ -1,15 +1,17 @@
+use Rattle.std.proofs.Common.{refl}
+use Rattle.numbers.proofs.Refusals.{never}
 use mathlib.Core.Path.{sym, ◌∙◌}
 use native.Mathlib.Nat.{mul-add}
 use native.Mathlib.Omega.{arith}
 use Rattle.numbers.proofs.Sides.{area}
 use Rattle.thermal_image.specs.Canvas.{margined, margined_on}
 use Rattle.refusals.proofs.Codes.{margin-done}
-use Rattle.thermal_image.proofs.Answers.{refuses, did, keeps, changes}
+use Rattle.thermal_image.proofs.Answers.{refused, did, kept, changed}
 use Rattle.thermal_image.proofs.ThermalImage.add_top_margin.Goals as goal
 
 pub returns-in-Err : goal.returns-in-Err
 unfolding margined margined_on
-returns-in-Err c = record { value = refuses _ c.in-Err.ensures _ _ c.refused.ensures; buf_after = keeps _ c.in-Err.ensures _ _ }
+returns-in-Err c = record { value = c.refused.ensures ∙ refused c.in-Err.ensures _ _ (never _); buf_after = kept c.in-Err.ensures _ _ (never _) }
 
 pub overflow_mul-dots : goal.overflow_mul-dots
 overflow_mul-dots c = let s = ((margin-done _ _ _ _ (sym c.in_default.ensures))).sound in omega (arith, area s.width s.height)
@@ -28,4 +30,4 @@ overflow_add-self c = omega (arith, ((margin-done _ _ _ _ (sym c.in_default.ensu
 pub returns : goal.returns
 unfolding margined margined_on
 returns c =
-    record { value = did c.in_default.ensures _ _ (c.sized.ensures ∙ rw c.rows_of.ensures); buf_after = changes c.in_default.ensures _ _ c.move_down.ensures }
+    record { value = did c.in_default.ensures _ _ refl (c.sized.ensures ∙ rw c.rows_of.ensures); buf_after = changed c.in_default.ensures _ _ refl c.move_down.ensures }

@@ -1,14 +1,16 @@
+use Rattle.std.proofs.Common.{refl}
+use Rattle.numbers.proofs.Refusals.{never}
 use mathlib.Core.Path.{sym}
 use native.Mathlib.Omega.{arith}
 use Rattle.numbers.proofs.Sides.{area}
 use Rattle.thermal_image.specs.Canvas.{rgb, rgb_on}
 use Rattle.refusals.proofs.Codes.{rgb-done}
-use Rattle.thermal_image.proofs.Answers.{keeps, changes, rgb-refuses, rgb-did}
+use Rattle.thermal_image.proofs.Answers.{kept, changed, rgb-refused, rgb-did}
 use Rattle.thermal_image.proofs.ThermalImage.consume_rgb_u8.Goals as goal
 
 pub returns-in-Err : goal.returns-in-Err
 unfolding rgb rgb_on
-returns-in-Err c = record { value = rw c.number.ensures (rgb-refuses _ c.in-Err.ensures _); out_after = keeps _ c.in-Err.ensures _ _ }
+returns-in-Err c = record { value = rw c.number.ensures (rgb-refused c.in-Err.ensures _ (never _)); out_after = kept c.in-Err.ensures _ _ (never _) }
 
 pub overflow_mul-dots : goal.overflow_mul-dots
 overflow_mul-dots c = let s = ((rgb-done _ _ _ _ (sym c.in_default.ensures))).0 in omega (arith, area s.width s.height)
@@ -19,4 +21,4 @@ rgb_bytes-requires c = let g = (rgb-done _ _ _ _ (sym c.in_default.ensures)) in 
 pub returns : goal.returns
 unfolding rgb rgb_on
 returns c =
-    record { value = rgb-did c.in_default.ensures _ c.sized-answer.ensures; out_after = changes c.in_default.ensures _ _ c.rgb_bytes.ensures }
+    record { value = rgb-did c.in_default.ensures _ refl c.sized-answer.ensures; out_after = changed c.in_default.ensures _ _ refl c.rgb_bytes.ensures }

@@ -1,14 +1,16 @@
+use Rattle.std.proofs.Common.{refl}
+use Rattle.numbers.proofs.Refusals.{never}
 use mathlib.Core.Path.{sym}
 use native.Mathlib.Omega.{arith}
 use Rattle.numbers.proofs.Sides.{area}
 use Rattle.thermal_image.specs.Canvas.{copied, copied_on}
 use Rattle.refusals.proofs.Codes.{out-done}
-use Rattle.thermal_image.proofs.Answers.{keeps, changes, copy-refuses, copy-did}
+use Rattle.thermal_image.proofs.Answers.{kept, changed, copy-refused, copy-did}
 use Rattle.thermal_image.proofs.ThermalImage.copy.Goals as goal
 
 pub returns-in-Err : goal.returns-in-Err
 unfolding copied copied_on
-returns-in-Err c = record { value = rw c.number.ensures (copy-refuses _ c.in-Err.ensures _); out_after = keeps _ c.in-Err.ensures _ _ }
+returns-in-Err c = record { value = rw c.number.ensures (copy-refused c.in-Err.ensures _ (never _)); out_after = kept c.in-Err.ensures _ _ (never _) }
 
 pub overflow_mul-dots : goal.overflow_mul-dots
 overflow_mul-dots c = let s = ((out-done _ _ _ _ (sym c.in_default.ensures))).0 in omega (arith, area s.width s.height)
@@ -19,4 +21,4 @@ copy_dots-requires c = let g = (out-done _ _ _ _ (sym c.in_default.ensures)) in 
 pub returns : goal.returns
 unfolding copied copied_on
 returns c =
-    record { value = copy-did c.in_default.ensures _; out_after = changes c.in_default.ensures _ _ c.copy_dots.ensures }
+    record { value = copy-did c.in_default.ensures _ refl; out_after = changed c.in_default.ensures _ _ refl c.copy_dots.ensures }

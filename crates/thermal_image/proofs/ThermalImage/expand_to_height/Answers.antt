@@ -1,3 +1,5 @@
+use Rattle.std.proofs.Common.{refl}
+use Rattle.numbers.proofs.Refusals.{never}
 use mathlib.Core.Path.{sym, ◌∙◌}
 use Prim.Native.Nat.{◌≤◌}
 use native.Mathlib.Omega.{arith}
@@ -5,7 +7,7 @@ use lib.ListN.{length}
 use Rattle.numbers.proofs.Sides.{area}
 use Rattle.thermal_image.specs.Canvas.{grown, grown_on}
 use Rattle.refusals.proofs.Codes.{Fits, grow-done}
-use Rattle.thermal_image.proofs.Answers.{refuses, did, keeps, changes}
+use Rattle.thermal_image.proofs.Answers.{refused, did, kept, changed}
 use Rattle.thermal_image.proofs.Paper.{more_rows, papered-run}
 use Rattle.thermal_image.proofs.ThermalImage.expand_to_height.Goals as goal
 use Rattle.thermal_image.proofs.ThermalImage.expand_to_height.Goals.{After-max-tall}
@@ -18,7 +20,7 @@ fits c =
 
 pub returns-in-Err : goal.returns-in-Err
 unfolding grown grown_on
-returns-in-Err c = record { value = refuses _ c.in-Err.ensures _ _ c.refused.ensures; buf_after = keeps _ c.in-Err.ensures _ _ }
+returns-in-Err c = record { value = c.refused.ensures ∙ refused c.in-Err.ensures _ _ (never _); buf_after = kept c.in-Err.ensures _ _ (never _) }
 
 pub overflow_mul-at : goal.overflow_mul-at
 overflow_mul-at c = let s = (fits (goal.at.overflow_mul-at c).After-max-tall).1.sound in omega (arith, area s.width s.height)
@@ -35,4 +37,4 @@ fill_run-requires c = let g = fits (goal.at.fill_run-requires c).After-max-tall 
 pub returns : goal.returns
 unfolding grown grown_on
 returns c =
-    record { value = did c.in_default.ensures _ _ (c.sized.ensures ∙ rw (c.rows_of.ensures, c.max-tall.ensures)); buf_after = changes c.in_default.ensures _ _ (papered-run _ _ _ _ _ c.max-tall.ensures c.fill_run.ensures) }
+    record { value = did c.in_default.ensures _ _ refl (c.sized.ensures ∙ rw (c.rows_of.ensures, c.max-tall.ensures)); buf_after = changed c.in_default.ensures _ _ refl (papered-run _ _ _ _ _ c.max-tall.ensures c.fill_run.ensures) }
