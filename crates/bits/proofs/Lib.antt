@@ -1,4 +1,5 @@
 pub mod Rows
+mod Stretching
 mod Unpacking
 mod Stamping
 mod Unique

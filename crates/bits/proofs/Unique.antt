@@ -4,14 +4,13 @@ use Rattle.numbers.proofs.OneAnswer.{OneContent, both}
 use Rattle.bits.proofs.row.draw_bits.Reads as draw-bits
 use Rattle.bits.proofs.unpack.PutBitBrush.draw_byte.Reads as put-byte
 use Rattle.bits.proofs.unpack.PutBitBrush.draw_bit.Reads as put-bit
-use Rattle.bits.proofs.unpack.Put.of.Reads as put-of
 use Rattle.bits.proofs.stamp.StampBitBrush.draw_byte.Reads as stamp-byte
 use Rattle.bits.proofs.stamp.StampBitBrush.draw_bit.Reads as stamp-bit
 use Rattle.bits.proofs.stamp.Stamp.of.Reads as stamp-of
 
 -- with any brush
-draw-bits-one : (T : _) (L : _) (B : _) (D : _) → OneContent (draw-bits.Post T L B D) (λ k e. e.0.now)
-draw-bits-one T L B D k a x y e f p q = both p q
+draw-bits-one : (T : _) (L : _) (B : _) (D : _) (C : _) (E : _) (F : _) → OneContent (draw-bits.Post T L B D C E F) (λ k e. e.0.now)
+draw-bits-one T L B D C E F k a x y e f p q = both p q
 
 put-byte-one : OneContent put-byte.Post (λ k e. e.1.0.now)
 put-byte-one k a x y e f p q = both p q
@@ -25,14 +24,6 @@ stamp-byte-one k a x y e f p q = both p q
 stamp-bit-one : OneContent stamp-bit.Post (λ k e. e.1.0.now)
 stamp-bit-one k a x y e f p q = both p q
 
--- what is made for a colour holds it, and by its ghost fields nothing but what is made for it
-put-of-one : (k : _) (a : _) (x y : _) (e f : _) → put-of.Post k a x e → put-of.Post k a y f
-    → (x.color ≡ y.color) × (x.blend ≡ y.blend) × (x.masks ≡ y.masks)
-put-of-one k a x y e f p q = (both p.0 q.0, both p.1 q.1, both x.told y.told)
-
-stamp-of-one : (k : _) (a : _) (x y : _) (e f : _) → stamp-of.Post k a x e → stamp-of.Post k a y f
-    → (x.color ≡ y.color) × (x.multiply ≡ y.multiply) × (x.mix.color ≡ y.mix.color) × (x.mix.multiply ≡ y.mix.multiply) × (x.masks ≡ y.masks)
-stamp-of-one k a x y e f p q =
-    let c = both p.0 q.0 in
-    let m = both p.1 q.1 in
-    (c, m, x.made.0 ∙ rw c (sym y.made.0), x.made.1 ∙ m ∙ sym y.made.1, both x.told y.told)
+-- a stamp is its colour and its mix
+stamp-of-one : (k : _) (a : _) (x y : _) (e f : _) → stamp-of.Post k a x e → stamp-of.Post k a y f → (x.color ≡ y.color) × (x.mix.multiply ≡ y.mix.multiply) × (x.mix.color ≡ y.mix.color)
+stamp-of-one k a x y e f p q = let c = both p.0 q.0 in (c, both p.1 q.1, x.full ∙ rw c (sym y.full))

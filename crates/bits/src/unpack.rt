@@ -1,7 +1,6 @@
 // Bits put on dots, or blended onto them.
-ghost use Rattle.std.specs.Prelude.{◌≡◌, ℕ, ◌-◌, ◌^◌, if◌then◌else◌};
+ghost use Rattle.std.specs.Prelude.{◌≡◌, if◌then◌else◌};
 ghost use Rattle.colour.specs.Colour.{with_alpha};
-ghost use Rattle.dots.specs.Dots.{tab};
 ghost use Rattle.bits.specs.Bits.{landed, alpha_landed};
 
 use super::row::BitBrush;
@@ -22,25 +21,11 @@ fn bit_dot(on: bool, color: RGBA, blend: bool, old: RGBA) -> RGBA
     color.with_alpha(RGBA::TRANSPARENT)
 }
 
-// A colour, and a mask for each of eight dots.
-#[derive(Drop)]
+// A colour where a bit is 1, put or blended.
+#[derive(Clone, Copy)]
 pub struct Put {
     pub color: RGBA,
     pub blend: bool,
-    masks: [u32; 8],
-    ghost told: { masks ≡ tab 8 (λ k. 2 ^ (7 - k)) },
-}
-
-impl Put {
-    pub fn of(color: RGBA, blend: bool) -> Put
-        ensures { (result.color ≡ color) × (result.blend ≡ blend) }
-    {
-        Put {
-            color,
-            blend,
-            masks: [128, 64, 32, 16, 8, 4, 2, 1],
-        }
-    }
 }
 
 impl BitBrush for Put {
@@ -48,16 +33,17 @@ impl BitBrush for Put {
 
     // Each bit is told by a mask as wide as a dot, and not by a shift, so that the compiler makes
     // vectors of the loop.
-    fn draw_byte(&self, buf: &mut [u8], at: usize, byte: u8, n: usize) {
+    fn draw_byte(self, buf: &mut [u8], at: usize, byte: u8, n: usize) {
+        let masks = [128, 64, 32, 16, 8, 4, 2, 1];
         for k in 0..n {
             let old = get_dot(buf, at + k);
-            let on = (byte as u32) & self.masks[k] != 0;
+            let on = (byte as u32) & masks[k] != 0;
             set_dot(buf, at + k, bit_dot(on, self.color, self.blend, old));
         }
     }
 
     // Where it is put the bit is a factor of the alpha, and not a test.
-    fn draw_bit(&self, buf: &mut [u8], at: usize, bit: u8, n: usize) {
+    fn draw_bit(self, buf: &mut [u8], at: usize, bit: u8, n: usize) {
         // A bit that is 0 and is blended leaves the dots as they are.
         if self.blend && bit == 0 {
             return;

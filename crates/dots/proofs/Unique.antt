@@ -78,7 +78,7 @@ mix-byte-of-one k a x y e f p q = both p q
 
 -- a mix and tables hold their colour, and by their ghost fields nothing but what is made for it
 mix-of-one : (k : _) (a : _) (x y : _) (e f : _) → mix-of.Post k a x e → mix-of.Post k a y f
-    → (x.color ≡ y.color) × (x.multiply ≡ y.multiply) × (x.factor ≡ y.factor) × (x.term ≡ y.term)
+    → (x.color ≡ y.color) × (x.multiply ≡ y.multiply) × (x.factor.now ≡ y.factor.now) × (x.term.now ≡ y.term.now)
 mix-of-one k a x y e f p q =
     let c = both p.0 q.0 in
     let m = both p.1 q.1 in

@@ -6,7 +6,7 @@ ghost use Rattle.dots.specs.Tables.{needs_tables, covers};
 use super::brush::Brush;
 use super::dot::{get_dot, set_dot};
 use super::fill::fill_run;
-use super::mix::Mix;
+use super::mix::{Mix, mix_factors, mix_terms};
 use super::multiply::{Tables, multiply_dot};
 use colour::RGBA;
 
@@ -95,5 +95,7 @@ pub fn draw_run(buf: &mut [u8], at: usize, count: usize, multiply: bool, c: RGBA
         Pen { color: c, multiply }.draw_dots(buf, at, count);
         return;
     }
-    Mix::of(c, multiply).draw_dots(buf, at, count);
+    let factor = mix_factors(c, multiply);
+    let term = mix_terms(c, multiply);
+    Mix::of(c, multiply, &factor, &term).draw_dots(buf, at, count);
 }

@@ -65,28 +65,32 @@ pub fn mix_byte(s: u8, m: u16, k: u16) -> u8
     ((t + t / 256) / 256) as u8
 }
 
-// A colour with its factors and terms, one of each for each byte of 16 dots.
-#[derive(Drop)]
-pub struct Mix {
+// A colour with its factors and terms, one of each for each byte of 16 dots. The arrays are lent: held
+// in the struct, they would be copied number by number as it is made, which takes longer than a short
+// run.
+#[derive(Clone, Copy)]
+pub struct Mix<'a> {
     pub color: RGBA,
     pub multiply: bool,
-    factor: [u16; 64],
-    term: [u16; 64],
+    factor: &'a [u16; 64],
+    term: &'a [u16; 64],
     ghost whole: { Whole multiply color },
     ghost bytes: { (k : ℕ) → k < 4 → chan color k ≤ 255 },
-    ghost made: { (factor ≡ lanes (factors multiply color)) × (term ≡ lanes (terms multiply color)) },
+    ghost made: { (factor.now ≡ lanes (factors multiply color)) × (term.now ≡ lanes (terms multiply color)) },
 }
 
-impl Mix {
-    pub fn of(color: RGBA, multiply: bool) -> Mix
-        requires { Whole multiply color }
+impl<'a> Mix<'a> {
+    // Takes what mix_factors and mix_terms make of the colour.
+    pub fn of(color: RGBA, multiply: bool, factor: &'a [u16; 64], term: &'a [u16; 64]) -> Mix<'a>
+        requires whole { Whole multiply color }
+        requires made { (factor.now ≡ lanes (factors multiply color)) × (term.now ≡ lanes (terms multiply color)) }
         ensures { (result.color ≡ color) × (result.multiply ≡ multiply) }
     {
         Mix {
             color,
             multiply,
-            factor: mix_factors(color, multiply),
-            term: mix_terms(color, multiply),
+            factor,
+            term,
         }
     }
 
@@ -113,7 +117,7 @@ fn mix_some(buf: &mut [u8], at: usize, count: usize, mix: &Mix)
     }
 }
 
-impl Brush for Mix {
+impl Brush for Mix<'_> {
     ghost dot = { λ m s. drawn m.multiply m.color s };
 
     fn draw_dots(&self, buf: &mut [u8], at: usize, count: usize) {

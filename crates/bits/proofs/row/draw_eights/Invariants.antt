@@ -3,4 +3,4 @@ use Rattle.bits.proofs.Rows.{Done}
 use Rattle.bits.proofs.row.draw_eights.Given as goal
 
 abbrev pub invariant-loop-x : goal.invariant-loop-x
-invariant-loop-x g l = Done (g.B.BitBrush.dot l.brush) l.data l.from 1 8 l.at l.count l.initial.buf l.x l.buf
+invariant-loop-x g l = Done (g.B.BitBrush.dot l.brush) l.data l.from l.at l.count l.initial.buf l.x l.buf

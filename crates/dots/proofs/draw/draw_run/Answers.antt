@@ -18,4 +18,5 @@ returns-then-covers c =
     c.fill_run.ensures ∙ change-by _ _ _ a.buf.now (λ i z. covers-full a.multiply a.c _ (sym c.covers.ensures ∙ c.if-covers.true))
 
 pub of-requires : goal.of-requires
-of-requires c = no-tables _ _ (omega arith) (sym c.needs_tables.ensures ∙ c.if-needs_tables.false)
+of-requires c =
+    record { whole = no-tables _ _ (omega arith) (sym c.needs_tables.ensures ∙ c.if-needs_tables.false); made = (c.mix_factors-factor.ensures, c.mix_terms-term.ensures) }

@@ -3,4 +3,4 @@ use Rattle.bits.proofs.Stamping.{Stamps}
 use Rattle.bits.proofs.stamp.StampBitBrush.draw_byte.Given as goal
 
 abbrev pub invariant-loop-j : goal.invariant-loop-j
-invariant-loop-j l = Stamps l.byte l.self.masks l.self.multiply l.self.color l.from l.j l.initial.buf l.buf
+invariant-loop-j l = Stamps l.byte l.masks l.self.mix.multiply l.self.color l.from l.j l.initial.buf l.buf

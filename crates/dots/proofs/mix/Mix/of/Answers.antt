@@ -6,7 +6,7 @@ use Rattle.dots.proofs.mix.Mix.of.Goals as goal
 pub invariant_of-result : goal.invariant_of-result
 invariant_of-result c =
     record {
-      whole = c.requires;
+      whole = c.requires.whole;
       bytes = chan-byte c.args.color (record { r = omega arith; g = omega arith; b = omega arith; a = omega arith });
-      made = (c.mix_factors.ensures, c.mix_terms.ensures);
+      made = c.requires.made;
     }
