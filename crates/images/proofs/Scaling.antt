@@ -68,9 +68,6 @@ module _ (s : Source) (bytes : List ℕ) (blend : Bool) (at j : ℕ) (l : List �
             rw (ep, ea, q)) a.sofar eo;
       }
 
-  pub across-at : {x i k : ℕ} {out : List ℕ} → i ≡ k → Across x i out → Across x k out
-  across-at e a = rw e at a
-
   pub across-end : {x i : ℕ} {out : List ℕ} → Across x i out → s.w ≤ x → out ≡ picture_row_on at (s.w * s.fx) blend (source_pixel s bytes) j l
   unfolding picture_row_on
   across-end {x} {i} a h =
@@ -115,6 +112,9 @@ module _ (W H : ℕ) (blend : Bool) (pixel : ℕ → ℕ → RGBA) (l : List ℕ
             let r = in_row j W k (omega (arith, a.place)) (omega (arith, a.place)) in
             rw (r.0, r.1, a.place)) a.sofar eo;
       }
+
+  pub down-at : {j at k : ℕ} {out : List ℕ} → at ≡ k → Down j at out → Down j k out
+  down-at e a = rw e at a
 
   pub down-end : {j at : ℕ} {out : List ℕ} → Down j at out → H ≤ j → out ≡ picture_on W H blend pixel l
   unfolding picture_on

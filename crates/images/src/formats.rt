@@ -4,7 +4,7 @@ ghost use Rattle.numbers.specs.Numbers.{limit};
 ghost use Rattle.bits.specs.Bits.{row_bytes, bit_alpha};
 ghost use Rattle.images.specs.Formats.{alpha_of, bytes_of, raster_of};
 
-#[derive(Clone, Copy)]
+#[derive(Clone, Copy, Debug, PartialEq, Eq)]
 pub enum Format {
     Bits,
     Alphas,

@@ -5,7 +5,7 @@ ghost use Rattle.bits.specs.Bits.{landed};
 ghost use Rattle.images.specs.Steps.{Sound, in_color, repeated, source_pixel, Above, picture_row_on, picture_on};
 
 use super::formats::{Format, alpha_at, row_bytes};
-use bits::unpack_row;
+use bits::{Put, draw_bits};
 use colour::RGBA;
 use dots::{draw_run, fill_run, get_dot, set_dot};
 use moves::move_run;
@@ -53,45 +53,40 @@ fn land_run(out: &mut [u8], at: usize, count: usize, pixel: RGBA, blend: bool)
     fill_run(out, at, count, pixel);
 }
 
-// A row that is not stretched.
-fn plain_pixels(out: &mut [u8], at: usize, data: &[u8], source: Source, j: usize, blend: bool)
-    requires sound { Sound source (length «data».now) × (source.fx ≡ 1) }
-    requires j_bound { (j < source.h * source.fy) × ((at + source.w * source.fx) * 4 ≤ length out.old) }
-    ensures { out.new ≡ picture_row_on at (source.w * source.fx) blend (source_pixel source «data».now) j out.old }
+// The block of a source dot. A row that is not stretched takes it as one dot, which is sooner done.
+fn land_block<const ONE: bool>(out: &mut [u8], at: usize, count: usize, pixel: RGBA, blend: bool)
+    requires { ((at + count) * 4 ≤ length out.old) × (ONE ≡ true → count ≡ 1) }
+    ensures { out.new ≡ change (within at (at + count)) (λ _ d. landed blend pixel d) out.old }
 {
-    let format = source.format;
-    let w = source.w;
-    let h = source.h;
-    let y = j / source.fy;
-    let mut x = 0;
-    let mut i = at;
-    while x < w {
-        let alpha = alpha_at(data, format, w, h, x, y);
-        let pixel = source.color.with_alpha(alpha);
-        land_dot(out, i, pixel, blend);
-        i += 1;
-        x += 1;
+    if ONE {
+        land_dot(out, at, pixel, blend);
+        return;
     }
+    land_run(out, at, count, pixel, blend);
 }
 
-fn scale_pixels(out: &mut [u8], at: usize, data: &[u8], source: Source, j: usize, blend: bool)
-    requires sound { Sound source (length «data».now) }
+fn scale_pixels<const ONE: bool>(
+    out: &mut [u8],
+    at: usize,
+    data: &[u8],
+    source: Source,
+    j: usize,
+    blend: bool,
+)
+    requires sound { Sound source (length «data».now) × (ONE ≡ true → source.fx ≡ 1) }
     requires j_bound { (j < source.h * source.fy) × ((at + source.w * source.fx) * 4 ≤ length out.old) }
     ensures { out.new ≡ picture_row_on at (source.w * source.fx) blend (source_pixel source «data».now) j out.old }
 {
     let format = source.format;
     let w = source.w;
     let h = source.h;
-    let fx = source.fx;
     let y = j / source.fy;
-    let mut x = 0;
     let mut i = at;
-    while x < w {
+    for x in 0..w {
         let alpha = alpha_at(data, format, w, h, x, y);
         let pixel = source.color.with_alpha(alpha);
-        land_run(out, i, fx, pixel, blend);
-        i += fx;
-        x += 1;
+        land_block::<ONE>(out, i, source.fx, pixel, blend);
+        i += source.fx;
     }
 }
 
@@ -100,21 +95,7 @@ fn repeats(j: usize, fy: usize, blend: bool) -> bool
     requires { 0 < fy }
     ensures { result ≡ repeated j fy blend }
 {
-    if blend {
-        return false;
-    }
-    j % fy != 0
-}
-
-// Rows of bits have a way of their own, which is sooner done.
-fn is_bits(format: Format) -> bool
-    ensures { result ≡ true → format ≡ Format.Bits }
-{
-    match format {
-        Format::Bits => true,
-        Format::Alphas => false,
-        Format::Columns => false,
-    }
+    !blend && j % fy != 0
 }
 
 fn draw_row(out: &mut [u8], at: usize, data: &[u8], source: Source, j: usize, blend: bool)
@@ -128,18 +109,22 @@ fn draw_row(out: &mut [u8], at: usize, data: &[u8], source: Source, j: usize, bl
         move_run(out, at - wide, wide, wide);
         return;
     }
-    let format = source.format;
-    if is_bits(format) {
+    // Rows of bits have a way of their own, which is sooner done.
+    if source.format == Format::Bits {
         let wide = source.w * source.fx;
         let from = j / source.fy * row_bytes(source.w);
-        unpack_row(out, at, wide, data, from, source.fx, source.color, blend);
+        let put = Put {
+            color: source.color,
+            blend,
+        };
+        draw_bits(out, at, wide, data, from, source.fx, put);
         return;
     }
     if source.fx == 1 {
-        plain_pixels(out, at, data, source, j, blend);
+        scale_pixels::<true>(out, at, data, source, j, blend);
         return;
     }
-    scale_pixels(out, at, data, source, j, blend);
+    scale_pixels::<false>(out, at, data, source, j, blend);
 }
 
 pub fn decode_single_color(out: &mut [u8], data: &[u8], source: Source, blend: bool)
@@ -149,11 +134,7 @@ pub fn decode_single_color(out: &mut [u8], data: &[u8], source: Source, blend: b
 {
     let wide = source.w * source.fx;
     let tall = source.h * source.fy;
-    let mut j = 0;
-    let mut at = 0;
-    while j < tall {
-        draw_row(out, at, data, source, j, blend);
-        at += wide;
-        j += 1;
+    for j in 0..tall {
+        draw_row(out, j * wide, data, source, j, blend);
     }
 }

@@ -1,11 +1,8 @@
--- `images::scale::decode_single_color` meets its contract. Assumes nothing.
-use Prim.Native.Nat.{◌-◌}
+-- `images::scale::decode_single_color` meets its contract. The loop's invariant: the rows before `j` are drawn. Assumes nothing.
+use Rattle.std.proofs.Common.{◌*◌}
 use Rattle.images.specs.Steps.{source_pixel}
 use Rattle.images.proofs.Scaling.{Down}
 use Rattle.images.proofs.scale.decode_single_color.Given as goal
 
 abbrev pub invariant-loop-j : goal.invariant-loop-j
-invariant-loop-j l = Down l.wide l.tall l.blend (source_pixel l.source l.data) l.initial.out l.j l.at l.out
-
-abbrev pub decreases-loop-j : goal.decreases-loop-j
-decreases-loop-j l = l.tall - l.j
+invariant-loop-j l = Down l.wide l.tall l.blend (source_pixel l.source l.data) l.initial.out l.j (l.j * l.wide) l.out

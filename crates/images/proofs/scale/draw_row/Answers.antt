@@ -1,19 +1,20 @@
 -- `images::scale::draw_row` meets its contract. Assumes nothing.
 use mathlib.Core.Path.{◌≡◌, sym, ◌∙◌}
 use mathlib.Core.Bool.{true}
+use Rattle.std.proofs.Common.{rules}
 use native.Mathlib.Omega.{arith}
 use Rattle.images.specs.Steps.{repeated}
 use Rattle.images.specs.declared.formats.Format.TheVariants.{Bits}
 use Rattle.images.proofs.Sides.{sides}
 use Rattle.images.proofs.Scaling.{repeat-is-row, bits-in-data, bits-shown, bits-is-row}
 use Rattle.images.proofs.scale.draw_row.Goals as goal
-use Rattle.images.proofs.scale.draw_row.Goals.{Then-is_bits, Then-repeats}
+use Rattle.images.proofs.scale.draw_row.Goals.{Then-eq, Then-repeats}
 
 again : (c : Then-repeats) → repeated c.args.j c.args.source.fy c.args.blend ≡ true
 again c = sym c.repeats.ensures ∙ c.if-repeats.true
 
-of-bits : (c : Then-is_bits) → c.args.source.format ≡ Bits
-of-bits c = c.is_bits.ensures c.if-is_bits.true
+of-bits : (c : Then-eq) → c.args.source.format ≡ Bits
+of-bits c = search rules
 
 pub repeats-requires : goal.repeats-requires
 repeats-requires c = c.requires.sound.fy
@@ -37,11 +38,11 @@ row_bytes-requires c = (sides c.args.source c.requires.sound).0
 
 pub overflow_mul-from : goal.overflow_mul-from
 overflow_mul-from c =
-    omega (arith, bits-in-data c.args.source c.requires.sound c.requires.j_bound.0 (of-bits (goal.at.overflow_mul-from c).Then-is_bits) c.row_bytes.ensures)
+    omega (arith, bits-in-data c.args.source c.requires.sound c.requires.j_bound.0 (of-bits (goal.at.overflow_mul-from c).Then-eq) c.row_bytes.ensures)
 
-pub unpack_row-requires : goal.unpack_row-requires
-unpack_row-requires c =
-    (c.requires.j_bound.1, c.requires.sound.fx, c.requires.sound.wide, bits-shown c.args.source c.requires.sound c.requires.j_bound.0 (of-bits (goal.at.unpack_row-requires c).Then-is_bits) c.row_bytes.ensures)
+pub draw_bits-requires : goal.draw_bits-requires
+draw_bits-requires c =
+    (c.requires.j_bound.1, c.requires.sound.fx, c.requires.sound.wide, bits-shown c.args.source c.requires.sound c.requires.j_bound.0 (of-bits (goal.at.draw_bits-requires c).Then-eq) c.row_bytes.ensures)
 
-pub returns-then-is_bits : goal.returns-then-is_bits
-returns-then-is_bits c = bits-is-row c.args.source _ _ _ _ _ (of-bits (goal.at.returns-then-is_bits c).Then-is_bits) c.row_bytes.ensures c.unpack_row.ensures
+pub returns-then-eq : goal.returns-then-eq
+returns-then-eq c = bits-is-row c.args.source _ _ _ _ _ (of-bits (goal.at.returns-then-eq c).Then-eq) c.row_bytes.ensures c.draw_bits.ensures

@@ -2,10 +2,10 @@
 use Rattle.images.specs.Steps.{repeated}
 use Rattle.images.proofs.scale.repeats.Goals as goal
 
-pub returns-then-blend : goal.returns-then-blend
+pub returns-then-not-blend : goal.returns-then-not-blend
 unfolding repeated
-returns-then-blend c = rw c.if-blend.true
+returns-then-not-blend c = rw c.if-not-blend.true
 
-pub returns : goal.returns
+pub returns-else-not-blend : goal.returns-else-not-blend
 unfolding repeated
-returns c = rw c.if-blend.false
+returns-else-not-blend c = rw c.if-not-blend.false

@@ -1,10 +1,6 @@
--- `images::scale::scale_pixels` meets its contract. Assumes nothing.
-use Prim.Native.Nat.{◌-◌}
+-- `images::scale::scale_pixels` meets its contract. The loop's invariant: the blocks of the source dots before `x` are there. Assumes nothing.
 use Rattle.images.proofs.Scaling.{Across}
 use Rattle.images.proofs.scale.scale_pixels.Given as goal
 
 abbrev pub invariant-loop-x : goal.invariant-loop-x
-invariant-loop-x l = Across l.source l.data l.blend l.at l.j l.initial.out l.x l.i l.out
-
-abbrev pub decreases-loop-x : goal.decreases-loop-x
-decreases-loop-x l = l.w - l.x
+invariant-loop-x g l = Across l.source l.data l.blend l.at l.j l.initial.out l.x l.i l.out
