@@ -5,7 +5,9 @@ ghost use Rattle.areas.specs.Areas.{Fits, area_on};
 
 use super::area::Area;
 use colour::RGBA;
-use dots::{Brush, Fill, Mix, Pen, TABLE_DOTS, Tables, covers, needs_tables};
+use dots::{
+    Brush, Fill, Mix, Pen, TABLE_DOTS, Tables, covers, mix_factors, mix_terms, needs_tables,
+};
 
 fn draw_rows<B: Brush>(buf: &mut [u8], area: Area, brush: &B)
     requires { Fits area.wide area.x area.y area.w area.h (length buf.old) }
@@ -48,5 +50,8 @@ pub fn draw_area(buf: &mut [u8], area: Area, c: RGBA, multiply: bool)
         draw_rows(buf, area, &Fill { color: c });
         return;
     }
-    draw_rows(buf, area, &Mix::of(c, multiply));
+    let factor = mix_factors(c, multiply);
+    let term = mix_terms(c, multiply);
+    let mix = Mix::of(c, multiply, &factor, &term);
+    draw_rows(buf, area, &mix);
 }

@@ -8,13 +8,15 @@ ghost use Rattle.entries.specs.Entries.{good_image, image_pixel};
 use super::Entry;
 use areas::Area;
 use bits::{Stamp, draw_bits};
+use colour::RGBA;
+use dots::{Mix, mix_factors, mix_terms};
 
 // The first w dots of the entry's own row j, from dot `at` on.
-fn image_row(buf: &mut [u8], at: usize, w: usize, e: Entry, j: usize, data: &[u8], stamp: &Stamp)
+fn image_row(buf: &mut [u8], at: usize, w: usize, e: Entry, j: usize, data: &[u8], stamp: Stamp<'_>)
     requires row { (good_image (length «data».now) e ≡ true) × (j < e.h) × (w ≤ e.w) }
     requires room { (w ≤ limit) × ((at + w) * 4 ≤ length buf.old) }
-    requires color { stamp.now.color ≡ e.color }
-    ensures { buf.new ≡ change (within at (at + w)) (λ i d. drawn stamp.now.multiply (image_pixel «data».now e (i - at) j) d) buf.old }
+    requires color { stamp.color ≡ e.color }
+    ensures { buf.new ≡ change (within at (at + w)) (λ i d. drawn stamp.entry.mix.multiply (image_pixel «data».now e (i - at) j) d) buf.old }
 {
     let size = (e.original_width as usize + 7) / 8;
     let from = e.start + j / e.stretch_y as usize * size;
@@ -34,9 +36,13 @@ pub(crate) fn image_rows(
     requires fits { (area.wide ≤ limit) × Fits area.wide area.x area.y area.w area.h (length buf.old) }
     ensures { buf.new ≡ area_on area.wide area.x area.y area.w area.h (λ i j d. drawn multiply (image_pixel «data».now e i (own + j)) d) buf.old }
 {
-    let stamp = Stamp::of(e.color, multiply);
+    let ink = e.color.with_alpha(RGBA::OPAQUE);
+    let factor = mix_factors(ink, multiply);
+    let term = mix_terms(ink, multiply);
+    let mix = Mix::of(ink, multiply, &factor, &term);
+    let stamp = Stamp::of(e.color, mix);
     for j in 0..area.h {
         let at = area.start_of(j);
-        image_row(buf, at, area.w, e, own + j, data, &stamp);
+        image_row(buf, at, area.w, e, own + j, data, stamp);
     }
 }

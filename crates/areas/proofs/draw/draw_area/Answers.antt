@@ -17,5 +17,6 @@ returns-then-covers c =
     let a = c.args in
     c.draw_rows.ensures ∙ area-by _ _ _ _ _ _ a.buf.now _ (λ i j u v. covers-full a.multiply a.c _ (sym c.covers.ensures ∙ c.if-covers.true))
 
-pub of-requires : goal.of-requires
-of-requires c = no-tables _ _ (omega arith) (sym c.needs_tables.ensures ∙ c.if-needs_tables.false)
+pub of-mix-requires : goal.of-mix-requires
+of-mix-requires c =
+    record { whole = no-tables _ _ (omega arith) (sym c.needs_tables.ensures ∙ c.if-needs_tables.false); made = (c.mix_factors-factor.ensures, c.mix_terms-term.ensures) }

@@ -9,7 +9,7 @@ pub loop-j-preserved : goal.loop-j-preserved
 loop-j-preserved c =
     let fits = c.requires.fits.1 in
     area-row _ _ _ _ _ _ _ fits.some fits.across _ c.start_of-at.ensures _ (λ k u v d. refl) c.loop-j.invariant
-    (c.image_row.ensures ∙ rw c.of-stamp.ensures.1)
+    (c.image_row.ensures ∙ rw (c.of-stamp.ensures.1, c.of-mix.ensures.1))
 
 pub returns : goal.returns
 returns c =
