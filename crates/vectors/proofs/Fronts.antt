@@ -1,10 +1,10 @@
 -- A buffer that bytes are written to from its start on, one after another. Assumes nothing.
 use mathlib.Core.Path.{◌≡◌, refl, ap, ◌∙◌}
 use mathlib.Core.List.{List, [], ◌∷◌, ◌++◌, append_assoc}
-use Prim.Native.Nat.{ℕ, suc, ◌+◌, ◌≤◌, ◌<◌}
+use Prim.Native.Nat.{ℕ, suc, ◌+◌, ◌<◌}
 use native.Mathlib.Numerals.{add-one}
 use native.Mathlib.Omega.{arith}
-use lib.ListN.{length, get_or, set, drop, length-append, length-drop}
+use lib.ListN.{length, get_or, set, drop, length-append}
 use lib.Seq.{drop-cons, set_at}
 
 -- the buffer l, with the n bytes of p at its start, is m
@@ -14,9 +14,6 @@ pub record Front (p : List ℕ) (n : ℕ) (l m : List ℕ) : Type 0 where
 
 pub front-none : (l : List ℕ) → Front [] 0 l l
 front-none l = record { count = refl; content = refl }
-
-pub front-room : {p : List ℕ} {n : ℕ} {l m : List ℕ} → Front p n l m → n ≤ length l → length m ≡ length l
-front-room {p} {n} {l} f h = ap length f.content ∙ simp (length-append, length-drop) (omega arith)
 
 pub front-next : {p q : List ℕ} {n : ℕ} {l m : List ℕ} (v : ℕ) → Front p n l m → n < length l → q ≡ p ++ (v ∷ []) → Front q (n + 1) l (set m n v)
 front-next {p} {q} {n} {l} {m} v f h e =

@@ -16,7 +16,7 @@ pub fn fill_from(out: &mut [u8], count: usize, seed: u32)
 fn next_state(state: u32) -> u32
     ensures { result ≡ next_state state }
 {
-    ((state as u64 * 1664525 + 1013904223) % 0x1_0000_0000) as u32
+    state.wrapping_mul(1664525).wrapping_add(1013904223)
 }
 
 fn seeded_byte(state: u32, seed: u32) -> u8

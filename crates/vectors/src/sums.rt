@@ -9,8 +9,7 @@ pub const NO_BYTES: u32 = 0x811c_9dc5;
 pub fn sum_with(sum: u32, byte: u8) -> u32
     ensures { result ≡ summed sum byte }
 {
-    let mixed = (sum ^ byte as u32) as u64;
-    (mixed * 0x0100_0193 % 0x1_0000_0000) as u32
+    (sum ^ byte as u32).wrapping_mul(0x0100_0193)
 }
 
 pub fn checksum(bytes: &[u8]) -> u32
