@@ -2,8 +2,20 @@
 use Rattle.std.proofs.Common.{◌≡◌, refl, List, ℕ, ◌+◌, ◌-◌, ◌*◌, ◌/◌, ◌%◌, ◌^◌, ◌≤◌, ◌<◌, min, get_or, arith}
 use Rattle.colour.specs.declared.RGBA.{RGBA}
 use Rattle.dots.proofs.Laws.{run_none, run_more}
-use Rattle.bits.specs.Bits.{bit_alpha, bits_on}
+use Rattle.bits.specs.Bits.{bit_alpha, Shown, bits_on}
 use Rattle.bits.specs.Steps.{byte_on}
+
+-- the byte of the next dots is there
+pub byte-shown : (from : ℕ) {count i size : ℕ} → Shown from 1 count size → i < count → from + i / 8 < size
+byte-shown from {i = i} s h = omega (arith, s i h)
+
+-- what a byte says of each of its dots
+byte-bit : (bytes : List ℕ) (from i k : ℕ) → i % 8 ≡ 0 → k < 8 → get_or bytes (from + i / 8) 0 / 2 ^ (7 - k) % 2 * 255 ≡ bit_alpha bytes from ((i + k) / 1)
+unfolding bit_alpha
+byte-bit bytes from i k a h =
+    let q : (i + k) / 1 / 8 ≡ i / 8 = omega arith in
+    let r : (i + k) / 1 % 8 ≡ k = omega arith in
+    rw (q, r)
 
 -- the bytes of a row of count dots
 abbrev pub bytes-of-row : ℕ → ℕ

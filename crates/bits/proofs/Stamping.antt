@@ -3,10 +3,10 @@ use Rattle.std.proofs.Common.{◌≡◌, ◌≢◌, refl, ap, ◌∙◌, inr, Bo
 use Rattle.colour.specs.Colour.{rgba, with_alpha}
 use Rattle.colour.specs.declared.RGBA.{RGBA}
 use Rattle.dots.specs.Dots.{tab, dot_at, chan, change, within, drawn}
-use Rattle.dots.specs.Tables.{Whole}
+use Rattle.dots.specs.Tables.{lanes, factors, terms, Whole}
 use Rattle.dots.proofs.Laws.{get_or-tab, byte_of, change-idle, drawn-none}
 use Rattle.dots.proofs.Bytes.{Over, over_none, over-step, over-change}
-use Rattle.dots.proofs.Mixed.{Bytes, drawn-byte}
+use Rattle.dots.proofs.Mixed.{Bytes, lane-at, lanes_fit, drawn-byte}
 use Rattle.bits.specs.Bits.{alpha_drawn}
 use Rattle.bits.specs.Steps.{byte_on, bit_on}
 use Rattle.bits.proofs.Unpacking.{Told, off, lit, told, is_one}
@@ -14,6 +14,14 @@ use Rattle.bits.proofs.Unpacking.{Told, off, lit, told, is_one}
 -- a bit is drawn at full alpha
 pub full : (t : Bool) (c : RGBA) → Whole t (with_alpha c 255)
 full t c = record { some = omega arith; full = λ e. refl }
+
+pub ink : (c : RGBA) → Bytes c → Bytes (with_alpha c 255)
+ink c p = record { r = p.r; g = p.g; b = p.g; a = omega arith }
+
+-- the factors and terms of a bit's colour are small enough for a byte
+pub stamp-fits : (m k : List ℕ) (t : Bool) (c : RGBA) → Bytes c → m ≡ lanes (factors t (with_alpha c 255)) → k ≡ lanes (terms t (with_alpha c 255))
+    → (j : ℕ) → j < 64 → 255 * get_or m j 0 + get_or k j 0 ≤ 65153
+stamp-fits m k t c p em ek j h = rw (lane-at _ em j h, lane-at _ ek j h) (lanes_fit t (with_alpha c 255) (ink c p) (j % 4) (omega arith))
 
 -- ---- the dots of a stretched bit
 

@@ -1,3 +1,4 @@
+mod Made
 pub mod Good
 mod Images
 pub mod Drawing
