@@ -44,9 +44,7 @@ pub fn merge_image_layers(
     requires fy_in_bounds { source.w * source.fx * (source.h * source.fy) * 4 ≤ length out.old }
     ensures { out.new ≡ picture_on (source.w * source.fx) (source.h * source.fy) false (merged_pixel colors «data».now bits source.w source.h source.fx source.fy (n - 1)) out.old }
 {
-    let mut k = 0;
-    while k < n {
+    for k in 0..n {
         draw_layer(out, data, bits, source, k, colors, 0 < k);
-        k += 1;
     }
 }

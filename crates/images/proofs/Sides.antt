@@ -1,11 +1,12 @@
 -- Stretch factors, and sides within the limit. Assumes nothing.
 use mathlib.Core.Path.{◌≡◌, refl}
 use mathlib.Core.Bool.{Bool, true, false, ◌||◌}
-use Prim.Native.Nat.{ℕ, ◌*◌, ◌≤◌, ◌<◌}
+use Prim.Native.Nat.{ℕ, ◌*◌, ◌≤◌, ◌<◌, max}
+use Rattle.std.specs.Prelude.{if◌then◌else◌}
 use native.Mathlib.Nat.{le_trans, le-mul_of_pos_right}
 use native.Mathlib.Omega.{arith}
 use lib.Dec.{ltb, eqb}
-use borrow.Author.Tests.{ltb-false, eqb-false}
+use borrow.Author.Tests.{ltb-false, eqb-true, eqb-false}
 use Rattle.numbers.specs.Numbers.{limit}
 use Rattle.colour.proofs.Tests.{neither}
 use Rattle.images.specs.declared.scale.Source.{Source}
@@ -21,6 +22,14 @@ factor-range {r} n e h = rw e (go (eqb n 0) refl)
     go : (t : Bool) → eqb n 0 ≡ t → (0 < factor n) × (factor n ≤ 255)
     go true e = rw e (omega arith)
     go false e = rw e (omega (arith, eqb-false n 0 e))
+
+pub factor-max : (n : ℕ) → max n 1 ≡ factor n
+unfolding factor
+factor-max n = go (eqb n 0) refl
+  where
+    go : (t : Bool) → eqb n 0 ≡ t → max n 1 ≡ (if t then 1 else n)
+    go true e = omega (arith, eqb-true n 0 e)
+    go false e = omega (arith, eqb-false n 0 e)
 
 -- ---- sides within the limit
 

@@ -4,16 +4,13 @@ ghost use Rattle.numbers.specs.Numbers.{limit};
 ghost use Rattle.images.specs.Formats.{bytes_of};
 ghost use Rattle.images.specs.Stretching.{factor, is_large};
 
-use super::formats::Format;
+use super::formats::{Format, row_bytes};
 use numbers::LIMIT;
 
 pub fn factor_of(stretch: u8) -> u32
     ensures { result ≡ factor stretch }
 {
-    if stretch == 0 {
-        return 1;
-    }
-    stretch as u32
+    (stretch as u32).max(1)
 }
 
 pub fn is_large(w: u32, h: u32, fx: u32, fy: u32) -> bool
@@ -39,8 +36,8 @@ pub fn bytes_of(format: Format, w: u32, h: u32) -> usize
     let w = w as usize;
     let h = h as usize;
     match format {
-        Format::Bits => (w + 7) / 8 * h,
+        Format::Bits => row_bytes(w) * h,
         Format::Alphas => w * h,
-        Format::Columns => w * ((h + 7) / 8),
+        Format::Columns => w * row_bytes(h),
     }
 }

@@ -46,5 +46,8 @@ module _ (multiply : Bool) (pixels : List ℕ) (from at count : ℕ) (l : List �
       → p ≡ dot_at pixels (from + i) → s ≡ dot_at b (at + i) → d ≡ drawn multiply p s → m ≡ set_dot b (at + i) d → Drawn (i + 1) m
   drawn-next {i} {b} r t room ep es ed em = drawn-more 1 r (omega arith) (one-dot multiply pixels (from + i) (at + i) b (omega (arith, r.same)) ep es ed em)
 
+  pub drawn-at : {i k : ℕ} {b : List ℕ} → i ≡ k → Drawn i b → Drawn k b
+  drawn-at e r = rw e at r
+
   pub drawn-end : {i : ℕ} {b : List ℕ} → Drawn i b → count ≤ i → b ≡ pixels_on multiply pixels from at count l
   drawn-end {i} r t = let e : i ≡ count = omega (arith, r.upto) in rw e at r.sofar

@@ -65,12 +65,10 @@ fn spread(
     ensures ink_after { ink.new ≡ spread_on (inks multiply) pixels.now from count ink.old }
     ensures alpha_after { alpha.new ≡ spread_on (alphas multiply) pixels.now from count alpha.old }
 {
-    let mut i = 0;
-    while i < count {
+    for i in 0..count {
         let p = load_dot(pixels, from + i);
         store_dot(ink, i, inks(p, multiply));
         store_dot(alpha, i, alphas(p, multiply));
-        i += 1;
     }
 }
 
@@ -107,11 +105,8 @@ fn draw_some(
     let mut alpha = [0u8; 64];
     spread(&mut ink, &mut alpha, count, pixels, from, multiply);
     let to = at * 4;
-    let n = count * 4;
-    let mut j = 0;
-    while j < n {
+    for j in 0..count * 4 {
         buf[to + j] = draw_byte(buf[to + j], ink[j], alpha[j], multiply, full);
-        j += 1;
     }
 }
 
@@ -129,10 +124,19 @@ pub fn draw_bytes(
     requires fact { (full ≡ false) ⊎ ((multiply ≡ true) × (all_crisp pixels.now from count ≡ true)) }
     ensures { buf.new ≡ pixels_on multiply pixels.now from at count buf.old }
 {
-    let mut i = 0;
-    while count - i >= 16 {
+    let blocks = count / 16;
+    for b in 0..blocks {
+        let i = b * 16;
         draw_some(buf, at + i, 16, pixels, from + i, multiply, full);
-        i += 16;
     }
-    draw_some(buf, at + i, count - i, pixels, from + i, multiply, full);
+    let done = blocks * 16;
+    draw_some(
+        buf,
+        at + done,
+        count - done,
+        pixels,
+        from + done,
+        multiply,
+        full,
+    );
 }

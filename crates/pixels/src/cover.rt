@@ -13,12 +13,10 @@ pub fn cover_each(buf: &mut [u8], at: usize, count: usize, pixels: &[u8], from: 
     requires count_value { all_crisp pixels.now from count ≡ true }
     ensures { buf.new ≡ pixels_on false pixels.now from at count buf.old }
 {
-    let mut i = 0;
-    while i < count {
+    for i in 0..count {
         let p = load_dot(pixels, from + i);
         let s = load_dot(buf, at + i);
         let d = if p.a == RGBA::OPAQUE { p } else { s };
         store_dot(buf, at + i, d);
-        i += 1;
     }
 }

@@ -21,11 +21,8 @@ fn crisp_piece(pixels: &[u8], from: usize, count: usize) -> bool
     ensures { result ≡ all_crisp pixels.now from count }
 {
     let mut yet = true;
-    let mut i = 0;
-    while i < count {
-        let p = load_dot(pixels, from + i);
-        yet = still_crisp(yet, p);
-        i += 1;
+    for i in 0..count {
+        yet = still_crisp(yet, load_dot(pixels, from + i));
     }
     yet
 }
@@ -37,12 +34,12 @@ pub fn all_crisp(pixels: &[u8], from: usize, count: usize) -> bool
     requires { (from + count) * 4 ≤ length pixels.now }
     ensures { result ≡ all_crisp pixels.now from count }
 {
-    let mut i = 0;
-    while count - i >= PIECE {
-        if !crisp_piece(pixels, from + i, PIECE) {
+    let pieces = count / PIECE;
+    for k in 0..pieces {
+        if !crisp_piece(pixels, from + k * PIECE, PIECE) {
             return false;
         }
-        i += PIECE;
     }
-    crisp_piece(pixels, from + i, count - i)
+    let seen = pieces * PIECE;
+    crisp_piece(pixels, from + seen, count - seen)
 }

@@ -1,14 +1,8 @@
 -- `pixels::bytes::draw_byte` meets its contract. Assumes nothing.
-use native.Mathlib.Omega.{arith}
-use mathlib.Core.Logic.{⊎_elim}
-use mathlib.Core.Path.{sym, ◌∙◌}
-use mathlib.Core.Bool.{true≢false}
+use Rattle.std.proofs.Common.{sym, ◌∙◌, ⊎_elim, true≢false, arith}
 use Rattle.dots.proofs.Scaled.{factor-fits}
 use Rattle.pixels.proofs.ByteWise.{byte-blended, byte-scaled, byte_full}
 use Rattle.pixels.proofs.bytes.draw_byte.Goals as goal
-
-pub mix_byte-requires : goal.mix_byte-requires
-mix_byte-requires c = omega arith
 
 pub returns-then-full : goal.returns-then-full
 returns-then-full c =

@@ -1,10 +1,7 @@
 -- `pixels::bytes::draw_bytes` meets its contract. Assumes nothing.
-use Prim.Native.Nat.{◌-◌}
+use Rattle.std.proofs.Common.{◌*◌}
 use Rattle.pixels.proofs.Runs.{Drawn}
 use Rattle.pixels.proofs.bytes.draw_bytes.Given as goal
 
-abbrev pub invariant-loop-i : goal.invariant-loop-i
-invariant-loop-i l = Drawn l.multiply l.pixels l.from l.at l.count l.initial.buf l.i l.buf
-
-abbrev pub decreases-loop-i : goal.decreases-loop-i
-decreases-loop-i l = l.count - l.i
+abbrev pub invariant-loop-b : goal.invariant-loop-b
+invariant-loop-b l = Drawn l.multiply l.pixels l.from l.at l.count l.initial.buf (l.b * 16) l.buf

@@ -1,11 +1,7 @@
 -- `pixels::crisp::crisp_piece` meets its contract. Assumes nothing.
-use mathlib.Core.Path.{◌≡◌}
-use Prim.Native.Nat.{◌-◌, ◌≤◌}
+use Rattle.std.proofs.Common.{◌≡◌}
 use Rattle.pixels.specs.Steps.{all_crisp}
 use Rattle.pixels.proofs.crisp.crisp_piece.Given as goal
 
 abbrev pub invariant-loop-i : goal.invariant-loop-i
-invariant-loop-i l = (l.i ≤ l.count) × (l.yet ≡ all_crisp l.pixels l.from l.i)
-
-abbrev pub decreases-loop-i : goal.decreases-loop-i
-decreases-loop-i l = l.count - l.i
+invariant-loop-i l = l.yet ≡ all_crisp l.pixels l.from l.i
