@@ -26,36 +26,38 @@ fn along(n: usize, i: usize, back: bool) -> usize
     if back { n - 1 - i } else { i }
 }
 
-// `columns` dots of row r, from column c on, of a quarter turn to the right or to the left: they stood
-// along one column of the source.
-fn turn_row(
-    src: &[u8],
+// A picture that is turned by a quarter, to the right or to the left.
+#[derive(Clone, Copy)]
+struct Quarter<'a> {
+    src: &'a [u8],
     w: usize,
     h: usize,
     left: bool,
-    r: usize,
-    c: usize,
-    columns: usize,
-    out: &mut [u8],
-)
-    requires { (w * h * 4 ≤ length src.now) × (w * h * 4 ≤ length out.old) × (r < w) × (c + columns ≤ h) }
-    ensures { out.new ≡ change (in_rect h c (c + columns) r (r + 1)) (turned_dot (quarter left) w h src.now) out.old }
-{
-    let x = along(w, r, left);
-    for k in c..c + columns {
-        let y = along(h, k, !left);
-        let d = get_dot(src, y * w + x);
-        set_dot(out, r * h + k, d);
-    }
+    ghost room: { w * h * 4 ≤ length src.now },
 }
 
-// `columns` columns from column c on, row by row, so that each of their source rows is read along.
-fn turn_rows(src: &[u8], w: usize, h: usize, left: bool, c: usize, columns: usize, out: &mut [u8])
-    requires { (w * h * 4 ≤ length src.now) × (w * h * 4 ≤ length out.old) × (c + columns ≤ h) }
-    ensures { out.new ≡ change (in_rect h c (c + columns) 0 w) (turned_dot (quarter left) w h src.now) out.old }
-{
-    for r in 0..w {
-        turn_row(src, w, h, left, r, c, columns, out);
+impl Quarter<'_> {
+    // `columns` dots of row r, from column c on: they stood along one column of the source.
+    fn turn_row(&self, r: usize, c: usize, columns: usize, out: &mut [u8])
+        requires { (self.now.w * self.now.h * 4 ≤ length out.old) × (r < self.now.w) × (c + columns ≤ self.now.h) }
+        ensures { out.new ≡ change (in_rect self.now.h c (c + columns) r (r + 1)) (turned_dot (quarter self.now.left) self.now.w self.now.h self.now.src.now) out.old }
+    {
+        let x = along(self.w, r, self.left);
+        for k in c..c + columns {
+            let y = along(self.h, k, !self.left);
+            let d = get_dot(self.src, y * self.w + x);
+            set_dot(out, r * self.h + k, d);
+        }
+    }
+
+    // `columns` columns from column c on, row by row, so that each of their source rows is read along.
+    fn turn_rows(&self, c: usize, columns: usize, out: &mut [u8])
+        requires { (self.now.w * self.now.h * 4 ≤ length out.old) × (c + columns ≤ self.now.h) }
+        ensures { out.new ≡ change (in_rect self.now.h c (c + columns) 0 self.now.w) (turned_dot (quarter self.now.left) self.now.w self.now.h self.now.src.now) out.old }
+    {
+        for r in 0..self.w {
+            self.turn_row(r, c, columns, out);
+        }
     }
 }
 
@@ -66,11 +68,12 @@ fn turn_quarter(src: &[u8], w: usize, h: usize, left: bool, out: &mut [u8])
     requires { (w * h * 4 ≤ length src.now) × (w * h * 4 ≤ length out.old) }
     ensures { out.new ≡ turned_on (quarter left) w h src.now out.old }
 {
+    let quarter = Quarter { src, w, h, left };
     let strips = h / STRIP;
     for s in 0..strips {
-        turn_rows(src, w, h, left, s * STRIP, STRIP, out);
+        quarter.turn_rows(s * STRIP, STRIP, out);
     }
-    turn_rows(src, w, h, left, strips * STRIP, h % STRIP, out);
+    quarter.turn_rows(strips * STRIP, h % STRIP, out);
 }
 
 // Each quarter turn by itself, so that the compiler makes a loop for it that does not ask which it is.

@@ -1,5 +1,5 @@
 use Rattle.moves.proofs.Rects.{no_rows, row_more}
-use Rattle.moves.proofs.turning.turn_rows.Goals as goal
+use Rattle.moves.proofs.turning.Quarter.turn_rows.Goals as goal
 
 pub loop-r-init : goal.loop-r-init
 loop-r-init c = no_rows _ _ _ _ _ _
