@@ -25,7 +25,7 @@ pub fn list_job(s: &[u8]) -> Translated
 }
 
 // A line answers how many bytes its text has. In each, `size` is the words and the newline, and then
-// the digits.
+// the digits. One function for lines of any parts would have to ask how long their words may be.
 fn paper_line(width: u32, height: u32, dropped: usize, out: &mut [u8]) -> Result<usize, Refusal>
     ensures value { written result ≡ text_given (paper_line width height dropped) (length out.old) }
     ensures out_after { out.new ≡ text_on (paper_line width height dropped) out.old }

@@ -2,8 +2,11 @@
 // and to write.
 ghost use Rattle.std.specs.Prelude.{◌≤◌};
 
-use super::{first_line, list_job, row_line};
+use super::{MOST_BYTES, first_line, list_job, row_line};
 use std::io;
+
+// Space for a job and a byte more, which tells that one is too long.
+pub const SPACE: usize = MOST_BYTES + 1;
 
 // Only one row's dots are held. A translated plan keeps the plan rules, so no row is refused.
 pub fn print_listing(rt: &HostRuntime, job: &[u8]) -> io::Result<()>

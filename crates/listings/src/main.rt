@@ -2,12 +2,9 @@
 #![tactic(auto)]
 
 use input::read_full;
-use listing::MOST_BYTES;
-use listing::printing::print_listing;
+use listing::printing::{SPACE, print_listing};
 use std::fs::File;
 use std::io;
-
-const SPACE: usize = MOST_BYTES + 1;
 
 fn main(rt: HostRuntime) -> io::Result<()> {
     for path in [

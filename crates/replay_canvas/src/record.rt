@@ -15,7 +15,7 @@ pub fn image_at(line: &[u8; LINE]) -> ThermalImage {
 }
 
 // All that a call gives is kept in the record of RGB output: the number, the canvas, and the width
-// and height of what is written out.
+// and height of what is written out. No From can be written here for two types of another crate.
 pub fn canvas(r: Answer) -> Rgb {
     let image = r.image;
     Rgb {

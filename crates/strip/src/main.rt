@@ -4,12 +4,8 @@
 #![tactic(auto)]
 
 use input::read_full;
-use listing::MOST_BYTES;
-use listing::printing::print_listing;
+use listing::printing::{SPACE, print_listing};
 use std::io;
-
-// A byte more than a job may have.
-const SPACE: usize = MOST_BYTES + 1;
 
 fn main(rt: HostRuntime) -> io::Result<()> {
     let mut space = [0u8; SPACE];

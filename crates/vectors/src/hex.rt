@@ -4,6 +4,7 @@ ghost use Rattle.vectors.specs.Hex.{digit_of, number_at, byte_at, color_at, byte
 
 use colour::RGBA;
 
+// Lower case alone: `to_digit` of std takes upper case too.
 fn digit(c: u8) -> u8
     ensures { result ≡ digit_of c }
 {

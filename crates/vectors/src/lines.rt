@@ -42,6 +42,7 @@ impl Tally {
         }
     }
 
+    // A list's name may be any bytes.
     pub fn tell(self, rt: &HostRuntime, list: &[u8]) -> io::Result<()>
         requires { self.agree ≤ self.lines }
         ensures { Unit {0} }

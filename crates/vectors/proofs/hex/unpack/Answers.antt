@@ -1,6 +1,6 @@
 use Rattle.vectors.proofs.Digits.{bytes_next}
 use Rattle.vectors.proofs.Fronts.{front-none, front-next}
-use Rattle.std.proofs.Common.{arith, ◌≡◌}
+use Rattle.std.proofs.Common.{arith}
 use Rattle.vectors.specs.Hex.{bytes_at}
 use Rattle.vectors.proofs.hex.unpack.Goals as goal
 
@@ -10,6 +10,3 @@ loop-i-init c = front-none _
 
 pub loop-i-preserved : goal.loop-i-preserved
 loop-i-preserved c = front-next _ c.loop-i.invariant (omega arith) (rw c.byte_at.ensures (bytes_next _ _ _))
-
-pub returns : goal.returns
-returns c = let e : c.loop-i.i ≡ c.args.size = omega arith in rw (← e) c.loop-i.invariant.content
