@@ -7,6 +7,7 @@ mod commands;
 mod dropping;
 pub mod kinds;
 mod records;
+mod sound;
 
 ghost use Rattle.std.specs.Prelude.{◌≡◌, ◌≤◌, length};
 ghost use Rattle.numbers.specs.Numbers.{number};
@@ -21,6 +22,7 @@ pub use dropping::{Dropped, command_reason, height_after};
 use kinds::MOST_COMMANDS;
 use numbers::Refusal;
 pub use records::{Rec, next_record};
+pub use sound::Job;
 
 // The number that the records from `at` on give, all of which are to be commands.
 fn rest_refusal(s: &[u8], at: usize) -> Result<(), Refusal>

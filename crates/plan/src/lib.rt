@@ -4,15 +4,14 @@
 mod steps;
 
 ghost use Rattle.std.specs.Prelude.{◌≡◌, false, []};
-ghost use Rattle.numbers.specs.Numbers.{done, number_of};
+ghost use Rattle.numbers.specs.Numbers.{number_of};
 ghost use Rattle.job.specs.Commands.{commands};
-ghost use Rattle.job.specs.Dropping.{job_refusal};
 ghost use Rattle.plan.specs.Plan.{no_entry, plan_with, plan_of, has_flip, refused_with, translated};
 
 use colour::RGBA;
 use entries::Entry;
 use job::kinds::{COMMANDS_START, FLIP};
-use job::{Dropped, Rec};
+use job::{Dropped, Job, Rec};
 use numbers::{DONE, Refusal};
 use steps::step;
 
@@ -74,12 +73,11 @@ fn fresh(width: u32, paper_color: RGBA) -> Plan
     }
 }
 
-fn has_flip(s: &[u8]) -> bool
-    requires { job_refusal s.now ≡ done }
-    ensures { result ≡ has_flip (commands s.now) }
+fn has_flip(job: Job) -> bool
+    ensures { result ≡ has_flip (commands job.entry.bytes.now) }
 {
     let mut at = COMMANDS_START;
-    while let Rec::Record { kind, next, .. } = job::next_record(s, at) {
+    while let Rec::Record { kind, next, .. } = job::next_record(job.bytes, at) {
         if kind == FLIP {
             return true;
         }
@@ -88,14 +86,11 @@ fn has_flip(s: &[u8]) -> bool
     false
 }
 
-// The plan of a job that is known to be good.
-fn plan_of(s: &[u8]) -> Plan
-    requires { (job_refusal s.now ≡ done) × (has_flip (commands s.now) ≡ false) }
-    ensures { result ≡ plan_of s.now }
+fn plan_of(job: Job) -> Plan
+    requires { has_flip (commands job.bytes.now) ≡ false }
+    ensures { result ≡ plan_of job.entry.bytes.now }
 {
-    let width = job::paper_width(s);
-    let paper_color = job::paper_color(s);
-    let mut p = fresh(width, paper_color);
+    let mut p = fresh(job.paper_width(), job.paper_color());
     let mut k: u32 = 0;
     let mut at = COMMANDS_START;
     while let Rec::Record {
@@ -103,9 +98,9 @@ fn plan_of(s: &[u8]) -> Plan
         start,
         size,
         next,
-    } = job::next_record(s, at)
+    } = job::next_record(job.bytes, at)
     {
-        let c = job::command_at(s, kind, start, size);
+        let c = job::command_at(job.bytes, kind, start, size);
         p = step(p, k, c);
         k += 1;
         at = next;
@@ -127,12 +122,13 @@ fn refused(why: Refusal) -> Translated
 pub fn translate(s: &[u8]) -> Translated
     ensures { result ≡ translated s.now }
 {
-    if let Err(why) = job::job_refusal(s) {
-        return refused(why);
-    }
-    if has_flip(s) {
+    let job = match Job::of(s) {
+        Ok(job) => job,
+        Err(why) => return refused(why),
+    };
+    if has_flip(job) {
         return refused(Refusal::NotTranslated);
     }
-    let plan = plan_of(s);
+    let plan = plan_of(job);
     Translated { number: DONE, plan }
 }

@@ -3,7 +3,7 @@
 ghost use Rattle.std.specs.Prelude.{◌≡◌, true, ◌+◌, ◌*◌, ◌≤◌, max, length};
 ghost use Rattle.numbers.specs.Numbers.{limit, done};
 ghost use Rattle.job.specs.Commands.{paper_width};
-ghost use Rattle.job.specs.Dropping.{job_refusal, job_height, next_height};
+ghost use Rattle.job.specs.Dropping.{job_height, next_height};
 ghost use Rattle.job.proofs.Soundness.{Held};
 ghost use Rattle.entries.specs.Entries.{good_entry};
 ghost use Rattle.runs.specs.Pictures.{shown};
@@ -16,7 +16,7 @@ use colour::RGBA;
 use dots::fill_run;
 use entries::{Entry, draw_entry};
 use job::kinds::COMMANDS_START;
-use job::{Command, Rec};
+use job::{Command, Job, Rec};
 use moves::move_down;
 
 // Answers the height, which is at least `end`.
@@ -99,12 +99,13 @@ fn obey(buf: &mut [u8], width: u32, height: u32, paper: RGBA, c: Command, s: &[u
     }
 }
 
-pub(crate) fn draw_all(s: &[u8], buf: &mut [u8])
-    requires { (job_refusal s.now ≡ done) × (paper_width s.now * job_height s.now * 4 ≤ length buf.old) }
-    ensures { buf.new ≡ shown (paper_width s.now) (job_height s.now) (run_picture s.now) buf.old }
+pub(crate) fn draw_all(job: Job, buf: &mut [u8])
+    requires { paper_width job.bytes.now * job_height job.bytes.now * 4 ≤ length buf.old }
+    ensures { buf.new ≡ shown (paper_width job.entry.bytes.now) (job_height job.entry.bytes.now) (run_picture job.entry.bytes.now) buf.old }
 {
-    let width = job::paper_width(s);
-    let paper = job::paper_color(s);
+    let width = job.paper_width();
+    let paper = job.paper_color();
+    let s = job.bytes;
     let mut height: u32 = 0;
     let mut at = COMMANDS_START;
     while let Rec::Record {

@@ -10,7 +10,7 @@ ghost use Rattle.runs.specs.Run.{ran, run_on, refused_run};
 
 use colour::RGBA;
 use draw::draw_all;
-use job::Dropped;
+use job::{Dropped, Job};
 use numbers::{DONE, Refusal};
 use refusals::room_refusal;
 use survey::look_over;
@@ -53,21 +53,21 @@ pub fn run(s: &[u8], buf: &mut [u8]) -> Ran
     ensures value { result ≡ ran s.now (length buf.old) }
     ensures buf_after { buf.new ≡ run_on s.now buf.old }
 {
-    if let Err(why) = job::job_refusal(s) {
-        return refused(why);
-    }
-    let width = job::paper_width(s);
-    let paper_color = job::paper_color(s);
-    let v = look_over(s);
+    let job = match Job::of(s) {
+        Ok(job) => job,
+        Err(why) => return refused(why),
+    };
+    let width = job.paper_width();
+    let v = look_over(job);
     if let Err(why) = room_refusal(width, v.height, buf.len()) {
         return refused(why);
     }
-    draw_all(s, buf);
+    draw_all(job, buf);
     let image = ThermalImage {
         width,
         height: v.height,
         auto_grow: true,
-        paper_color,
+        paper_color: job.paper_color(),
     };
     let dropped = v.dropped;
     Ran {

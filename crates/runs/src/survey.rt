@@ -1,11 +1,11 @@
 // The height and the dropped commands of a job, before anything is drawn.
 ghost use Rattle.std.specs.Prelude.{◌≡◌, [], ◌<◌};
-ghost use Rattle.numbers.specs.Numbers.{done, number_of};
-ghost use Rattle.job.specs.Dropping.{job_refusal, job_height, job_dropped};
+ghost use Rattle.numbers.specs.Numbers.{number_of};
+ghost use Rattle.job.specs.Dropping.{job_height, job_dropped};
 ghost use Rattle.runs.specs.Steps.{survey_with, left_out, seen};
 
 use job::kinds::COMMANDS_START;
-use job::{Command, Dropped, Rec};
+use job::{Command, Dropped, Job, Rec};
 use numbers::Refusal;
 
 #[derive(Clone, Copy)]
@@ -52,11 +52,11 @@ fn look_at(survey: Survey, width: u32, k: u32, c: Command) -> Survey
     v
 }
 
-pub(crate) fn look_over(s: &[u8]) -> Survey
-    requires { job_refusal s.now ≡ done }
-    ensures { result ≡ survey_with (job_height s.now) (job_dropped s.now) }
+pub(crate) fn look_over(job: Job) -> Survey
+    ensures { result ≡ survey_with (job_height job.entry.bytes.now) (job_dropped job.entry.bytes.now) }
 {
-    let width = job::paper_width(s);
+    let width = job.paper_width();
+    let s = job.bytes;
     let mut v = nothing();
     let mut k: u32 = 0;
     let mut at = COMMANDS_START;

@@ -6,7 +6,7 @@ use Rattle.plan.proofs.Going.{searched-start, searched-next, searched-found, sea
 use Rattle.plan.proofs.has_flip.Goals as goal
 
 pub loop-kind-init : goal.loop-kind-init
-loop-kind-init c = searched-start _ (good _ c.requires)
+loop-kind-init c = searched-start _ (good _ c.args.job.sound)
 
 pub returns-then-kind-eq-FLIP : goal.returns-then-kind-eq-FLIP
 returns-then-kind-eq-FLIP c =

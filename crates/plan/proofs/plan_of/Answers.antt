@@ -6,15 +6,9 @@ use Rattle.plan.proofs.Going.{going_start, going_end, going-sound, going-few, go
 use Rattle.plan.proofs.Answers.{plan-with}
 use Rattle.plan.proofs.plan_of.Goals as goal
 
-pub paper_width-width-requires : goal.paper_width-width-requires
-paper_width-width-requires c = (good _ c.requires.0).long
-
-pub paper_color-paper_color-requires : goal.paper_color-paper_color-requires
-paper_color-paper_color-requires c = (good _ c.requires.0).long
-
 pub loop-kind-init : goal.loop-kind-init
 loop-kind-init c =
-    going_start _ (good _ c.requires.0) c.requires.1 (plan-with c.paper_width-width.ensures c.paper_color-paper_color.ensures c.fresh-p.ensures)
+    going_start _ (good _ c.args.job.sound) c.requires (plan-with c.paper_width.ensures c.paper_color.ensures c.fresh-p.ensures)
 
 pub command_at-c-requires : goal.command_at-c-requires
 command_at-c-requires c =

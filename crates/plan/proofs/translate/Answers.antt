@@ -1,20 +1,20 @@
-use Rattle.std.proofs.Common.{refl, sym, ap, ◌∙◌}
+use Rattle.std.proofs.Common.{refl, sym, ◌∙◌}
 use Rattle.numbers.proofs.Refusals.{never}
 use Rattle.plan.proofs.Answers.{refused-job, refused-flip, given-plan}
 use Rattle.plan.proofs.translate.Goals as goal
 
 pub returns-in-Err : goal.returns-in-Err
-returns-in-Err c = c.refused.ensures ∙ refused-job _ c.in-Err.ensures (never _) refl
-
-pub has_flip-requires : goal.has_flip-requires
-has_flip-requires c = sym c.in_default.ensures
+returns-in-Err c = c.refused.ensures ∙ refused-job _ c.in-Err.ensures.value (never _) refl
 
 pub returns-then-has_flip : goal.returns-then-has_flip
 returns-then-has_flip c =
-    c.refused-then-has_flip.ensures ∙ refused-flip _ c.in_default.ensures refl (sym c.if-has_flip.true ∙ c.has_flip.ensures) refl
+    let e = c.in-Ok.ensures in
+    c.refused-then-has_flip.ensures ∙ refused-flip _ e.value refl (sym c.if-has_flip.true ∙ rw e.same at c.has_flip.ensures) refl
 
 pub plan_of-plan-requires : goal.plan_of-plan-requires
-plan_of-plan-requires c = (sym c.in_default.ensures, sym c.has_flip.ensures ∙ c.if-has_flip.false)
+plan_of-plan-requires c = sym c.has_flip.ensures ∙ c.if-has_flip.false
 
 pub returns : goal.returns
-returns c = given-plan _ c.in_default.ensures refl (sym c.if-has_flip.false ∙ c.has_flip.ensures) c.plan_of-plan.ensures
+returns c =
+    let e = c.in-Ok.ensures in
+    given-plan _ e.value refl (sym c.if-has_flip.false ∙ rw e.same at c.has_flip.ensures) (rw e.same at c.plan_of-plan.ensures)

@@ -5,11 +5,8 @@ use Rattle.job.proofs.Walk.{good, left-end}
 use Rattle.runs.proofs.Going.{surveyed-start, surveyed-end, surveyed-sound, surveyed-few, surveyed-room, surveyed-next}
 use Rattle.runs.proofs.survey.look_over.Goals as goal
 
-pub paper_width-width-requires : goal.paper_width-width-requires
-paper_width-width-requires c = (good _ c.requires).long
-
 pub loop-kind-init : goal.loop-kind-init
-loop-kind-init c = surveyed-start _ (good _ c.requires) c.nothing-v.ensures
+loop-kind-init c = surveyed-start _ (good _ c.args.job.sound) c.nothing-v.ensures
 
 pub command_at-c-requires : goal.command_at-c-requires
 command_at-c-requires c =
