@@ -121,11 +121,13 @@ impl Brush for Mix<'_> {
     ghost dot = { λ m s. drawn m.multiply m.color s };
 
     fn draw_dots(&self, buf: &mut [u8], at: usize, count: usize) {
-        let blocks = count / BLOCK;
-        for b in 0..blocks {
-            mix_some(buf, at + b * BLOCK, BLOCK, self);
+        // A range of blocks makes the three dots of a stretched bit take a third longer.
+        let end = at + count;
+        let mut i = at;
+        while end - i >= BLOCK {
+            mix_some(buf, i, BLOCK, self);
+            i += BLOCK;
         }
-        let done = blocks * BLOCK;
-        mix_some(buf, at + done, count - done, self);
+        mix_some(buf, i, end - i, self);
     }
 }
