@@ -45,7 +45,7 @@ pub fn flip_area(buf: &mut [u8], area: Area)
     requires { Fits area.wide area.x area.y area.w area.h (length buf.old) }
     ensures { buf.new ≡ flipped_on area.wide area.x area.y area.w area.h buf.old }
 {
-    for j in 0..(area.h + 1) / 2 {
+    for j in 0..area.h.div_ceil(2) {
         let top = area.start_of(j);
         let bottom = area.start_of(area.h - 1 - j);
         flip_rows(buf, top, bottom, area.w);
