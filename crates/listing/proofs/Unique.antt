@@ -1,9 +1,8 @@
 -- Each public function's contract leaves one answer and one content of the lent buffer. Assumes nothing.
-use Rattle.std.proofs.Common.{ℕ, ◌≡◌, refl, sym, ap, ◌∙◌, ◌-◌, [], ◌∷◌}
-use Rattle.std.specs.Prelude.{Result, Ok, Err, eqb, get_or, if◌then◌else◌}
-use Rattle.numbers.specs.Numbers.{done}
+use Rattle.std.proofs.Common.{ℕ, ◌≡◌, sym, ap}
+use Rattle.std.specs.Prelude.{Result, Ok, Err}
 use Rattle.numbers.specs.declared.refusal.Refusal.{Refusal}
-use Rattle.numbers.specs.declared.refusal.Refusal.TheVariants.{NoRoom, TooLarge, WrongLength, NoLayers, OffPaper, TooMany, Short, TooTall, BadCanvas, EmptyArea, BadJob, TooLong, NotTranslated, BadPlan, NoRow, LayerSize}
+use Rattle.numbers.proofs.Refusals.{never, one_refusal}
 use Rattle.listing.specs.Listing.{Written, written}
 use Rattle.numbers.proofs.OneAnswer.{OneAnswer, OneAnswerWhere, OneContent, both}
 use Rattle.listing.proofs.list_job.Reads as list-job
@@ -14,34 +13,11 @@ use Rattle.listing.proofs.writing.put_part.Reads as put-part
 use Rattle.listing.proofs.printing.print_listing.Reads as print-listing
 
 -- what is written tells what was answered
-why : ℕ → Refusal
-why number = get_or (NoRoom ∷ TooLarge ∷ WrongLength ∷ NoLayers ∷ OffPaper ∷ TooMany ∷ Short ∷ TooTall ∷ BadCanvas ∷ EmptyArea ∷ BadJob ∷ TooLong ∷ NotTranslated ∷ BadPlan ∷ NoRow ∷ LayerSize ∷ []) (number - 1) NoRoom
-
-read : Written → Result ℕ Refusal
-read w = if eqb w.number done then Ok w.size else Err (why w.number)
-
-read_written : (r : Result ℕ Refusal) → read (written r) ≡ r
-unfolding read why
-read_written (Ok n) = refl
-read_written (Err NoRoom) = refl
-read_written (Err TooLarge) = refl
-read_written (Err WrongLength) = refl
-read_written (Err NoLayers) = refl
-read_written (Err OffPaper) = refl
-read_written (Err TooMany) = refl
-read_written (Err Short) = refl
-read_written (Err TooTall) = refl
-read_written (Err BadCanvas) = refl
-read_written (Err EmptyArea) = refl
-read_written (Err BadJob) = refl
-read_written (Err TooLong) = refl
-read_written (Err NotTranslated) = refl
-read_written (Err BadPlan) = refl
-read_written (Err NoRow) = refl
-read_written (Err LayerSize) = refl
-
 same-result : (x y : Result ℕ Refusal) → written x ≡ written y → x ≡ y
-same-result x y e = sym (read_written x) ∙ ap read e ∙ read_written y
+same-result (Ok m) (Ok n) e = ap Ok (ap (λ (w : Written). w.size) e)
+same-result (Ok m) (Err b) e = absurd (never b (sym (ap (λ (w : Written). w.number) e)))
+same-result (Err a) (Ok n) e = absurd (never a (ap (λ (w : Written). w.number) e))
+same-result (Err a) (Err b) e = ap Err (one_refusal a b (ap (λ (w : Written). w.number) e))
 
 list-job-one : OneAnswer list-job.Post
 list-job-one k a x y e f p q = both p q
