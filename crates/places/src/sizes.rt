@@ -14,13 +14,8 @@ pub struct Crop {
 pub(crate) fn cropped(t: ThermalImage, x: u32, y: u32, w: u32) -> bool
     ensures { result ≡ cropped t x y w }
 {
-    if (t.width as usize) < x as usize + w as usize {
-        return true;
-    }
-    if t.auto_grow {
-        return false;
-    }
-    (t.height as usize) < y as usize + w as usize
+    let across = (t.width as usize) < x as usize + w as usize;
+    across || !t.auto_grow && (t.height as usize) < y as usize + w as usize
 }
 
 pub fn crop_pixels(t: ThermalImage, x: u32, y: u32, w: u32, h: u32) -> Crop
@@ -53,10 +48,7 @@ pub fn flip_tall(t: ThermalImage, y: u32, h: u32) -> usize
 pub fn flips(upside_down: bool, t: ThermalImage, x: u32, w: u32, h: u32) -> bool
     ensures { result ≡ flips upside_down t x w h }
 {
-    if !upside_down || w == 0 || h == 0 {
-        return false;
-    }
-    x as usize + w as usize <= t.width as usize
+    upside_down && w != 0 && h != 0 && x as usize + w as usize <= t.width as usize
 }
 
 pub fn image_tall(upside_down: bool, t: ThermalImage, x: u32, y: u32, w: u32, h: u32) -> usize
