@@ -6,7 +6,7 @@ ghost use Rattle.graphics.specs.Layers.{layer_pixel, merged_pixel};
 
 use super::refusals::layer_bytes;
 use colour::RenderColors;
-use images::{Source, decode_single_color};
+use images::{Image, Source, decode_single_color};
 
 // Layer k: its data is the part of the input after its colour byte, and goes through the
 // single-colour decoder, which puts the layer or blends it onto those before it.
@@ -28,7 +28,11 @@ fn draw_layer(
     let color = colors.color_for_number(data[start]);
     let from = start + 1;
     let end = from + size;
-    decode_single_color(out, &data[from..end], source.in_color(color), blend);
+    let image = Image {
+        source: source.in_color(color),
+        data: &data[from..end],
+    };
+    decode_single_color(out, image, blend);
 }
 
 // Layers 2 to n blend onto layer 1 at their own alpha.

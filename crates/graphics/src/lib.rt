@@ -13,7 +13,7 @@ ghost use Rattle.graphics.specs.Decoding.{decoded, decoded_on};
 ghost use Rattle.graphics.specs.Layers.{merged, merged_on};
 
 use colour::{RGBA, RenderColors};
-use images::{Format, Source, decode_single_color, factor_of, raster_of};
+use images::{Format, Image, Source, decode_single_color, factor_of, raster_of};
 use layers::merge_image_layers;
 use numbers::{DONE, Refusal};
 use refusals::{layers_refusal, refusal_of};
@@ -114,7 +114,7 @@ fn image_from_bytes(
         fy: fy as usize,
         color,
     };
-    decode_single_color(out, data, source, false);
+    decode_single_color(out, Image { source, data }, false);
     Decoded {
         number: DONE,
         w: width * fx,

@@ -24,7 +24,7 @@ pub fn row_bytes(w: usize) -> usize
     requires { w ≤ limit }
     ensures { result ≡ row_bytes w }
 {
-    (w + 7) / 8
+    w.div_ceil(8)
 }
 
 fn unpack_bytes(data: &[u8], at: usize, k: usize) -> u8

@@ -7,5 +7,5 @@ mod scale;
 mod sizes;
 
 pub use formats::{Format, raster_of};
-pub use scale::{Source, decode_single_color};
+pub use scale::{Image, Source, decode_single_color};
 pub use sizes::{bytes_of, factor_of, is_large};

@@ -30,6 +30,14 @@ impl Source {
     }
 }
 
+// A source with the data that tell its dots, known to hold all of them.
+#[derive(Clone, Copy)]
+pub struct Image<'a> {
+    pub source: Source,
+    pub data: &'a [u8],
+    ghost sound: { Sound source (length «data».now) },
+}
+
 fn land_dot(out: &mut [u8], i: usize, pixel: RGBA, blend: bool)
     requires { i * 4 + 4 ≤ length out.old }
     ensures { out.new ≡ set_dot out.old i (landed blend pixel (dot_at out.old i)) }
@@ -65,18 +73,12 @@ fn land_block<const ONE: bool>(out: &mut [u8], at: usize, count: usize, pixel: R
     land_run(out, at, count, pixel, blend);
 }
 
-fn scale_pixels<const ONE: bool>(
-    out: &mut [u8],
-    at: usize,
-    data: &[u8],
-    source: Source,
-    j: usize,
-    blend: bool,
-)
-    requires sound { Sound source (length «data».now) × (ONE ≡ true → source.fx ≡ 1) }
-    requires j_bound { (j < source.h * source.fy) × ((at + source.w * source.fx) * 4 ≤ length out.old) }
-    ensures { out.new ≡ picture_row_on at (source.w * source.fx) blend (source_pixel source «data».now) j out.old }
+fn scale_pixels<const ONE: bool>(out: &mut [u8], at: usize, image: Image, j: usize, blend: bool)
+    requires one { ONE ≡ true → image.source.fx ≡ 1 }
+    requires j_bound { (j < image.source.h * image.source.fy) × ((at + image.source.w * image.source.fx) * 4 ≤ length out.old) }
+    ensures { out.new ≡ picture_row_on at (image.entry.source.w * image.entry.source.fx) blend (source_pixel image.entry.source image.entry.«data».now) j out.old }
 {
+    let Image { source, data } = image;
     let format = source.format;
     let w = source.w;
     let h = source.h;
@@ -98,12 +100,12 @@ fn repeats(j: usize, fy: usize, blend: bool) -> bool
     !blend && j % fy != 0
 }
 
-fn draw_row(out: &mut [u8], at: usize, data: &[u8], source: Source, j: usize, blend: bool)
-    requires sound { Sound source (length «data».now) }
-    requires j_bound { (j < source.h * source.fy) × ((at + source.w * source.fx) * 4 ≤ length out.old) }
-    requires above { Above source «data».now blend at j out.old }
-    ensures { out.new ≡ picture_row_on at (source.w * source.fx) blend (source_pixel source «data».now) j out.old }
+fn draw_row(out: &mut [u8], at: usize, image: Image, j: usize, blend: bool)
+    requires j_bound { (j < image.source.h * image.source.fy) × ((at + image.source.w * image.source.fx) * 4 ≤ length out.old) }
+    requires above { Above image.source image.«data».now blend at j out.old }
+    ensures { out.new ≡ picture_row_on at (image.entry.source.w * image.entry.source.fx) blend (source_pixel image.entry.source image.entry.«data».now) j out.old }
 {
+    let source = image.source;
     if repeats(j, source.fy, blend) {
         let wide = source.w * source.fx;
         move_run(out, at - wide, wide, wide);
@@ -117,24 +119,24 @@ fn draw_row(out: &mut [u8], at: usize, data: &[u8], source: Source, j: usize, bl
             color: source.color,
             blend,
         };
-        draw_bits(out, at, wide, data, from, source.fx, put);
+        draw_bits(out, at, wide, image.data, from, source.fx, put);
         return;
     }
     if source.fx == 1 {
-        scale_pixels::<true>(out, at, data, source, j, blend);
+        scale_pixels::<true>(out, at, image, j, blend);
         return;
     }
-    scale_pixels::<false>(out, at, data, source, j, blend);
+    scale_pixels::<false>(out, at, image, j, blend);
 }
 
-pub fn decode_single_color(out: &mut [u8], data: &[u8], source: Source, blend: bool)
-    requires sound { Sound source (length «data».now) }
-    requires fy_in_bounds { source.w * source.fx * (source.h * source.fy) * 4 ≤ length out.old }
-    ensures { out.new ≡ picture_on (source.w * source.fx) (source.h * source.fy) blend (source_pixel source «data».now) out.old }
+pub fn decode_single_color(out: &mut [u8], image: Image, blend: bool)
+    requires fy_in_bounds { image.source.w * image.source.fx * (image.source.h * image.source.fy) * 4 ≤ length out.old }
+    ensures { out.new ≡ picture_on (image.entry.source.w * image.entry.source.fx) (image.entry.source.h * image.entry.source.fy) blend (source_pixel image.entry.source image.entry.«data».now) out.old }
 {
+    let source = image.source;
     let wide = source.w * source.fx;
     let tall = source.h * source.fy;
     for j in 0..tall {
-        draw_row(out, j * wide, data, source, j, blend);
+        draw_row(out, j * wide, image, j, blend);
     }
 }

@@ -25,10 +25,14 @@ unfolding decoded decoded_on
 returns-in-Err c =
     let e = c.in-Err.ensures in record { value = c.refused.ensures ∙ rw (← c.factor_of-fx.ensures, ← c.factor_of-fy.ensures, ← e) (answer-refused _ _ _ _ _ (never _)); out_after = rw (← c.factor_of-fx.ensures, ← c.factor_of-fy.ensures, ← e) (output-refused _ _ _ _ _ _ _ (never _)) }
 
+pub invariant_of-decode_single_color : goal.invariant_of-decode_single_color
+invariant_of-decode_single_color c =
+    let g = single-done _ _ _ _ _ _ _ (sym c.in_default.ensures) in
+    record { sound = sound-of _ _ _ _ _ _ g.sides (range (goal.at.invariant_of-decode_single_color c).After-factor_of-fx).0 (range-2 (goal.at.invariant_of-decode_single_color c).After-factor_of-fy).0 (omega (arith, g.bytes)) }
+
 pub decode_single_color-requires : goal.decode_single_color-requires
 decode_single_color-requires c =
-    let g = single-done _ _ _ _ _ _ _ (sym c.in_default.ensures) in
-    record { sound = sound-of _ _ _ _ _ _ g.sides (range (goal.at.decode_single_color-requires c).After-factor_of-fx).0 (range-2 (goal.at.decode_single_color-requires c).After-factor_of-fy).0 (omega (arith, g.bytes)); fy_in_bounds = room_for _ _ _ _ g.fits }
+    record { fy_in_bounds = room_for _ _ _ _ (single-done _ _ _ _ _ _ _ (sym c.in_default.ensures)).fits }
 
 pub overflow_mul-result : goal.overflow_mul-result
 overflow_mul-result c = omega (arith, (single-done _ _ _ _ _ _ _ (sym c.in_default.ensures)).sides.wide)

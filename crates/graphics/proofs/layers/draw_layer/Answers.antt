@@ -26,9 +26,12 @@ overflow_add-from c = omega (arith, ends (goal.at.overflow_add-from c).After-lay
 pub overflow_add-end : goal.overflow_add-end
 overflow_add-end c = omega (arith, ends (goal.at.overflow_add-end c).After-layer_bytes-size)
 
+pub invariant_of-image : goal.invariant_of-image
+invariant_of-image c =
+    record { sound = layer-sound _ _ _ c.args.bits c.args.source _ c.in_color.ensures c.requires.k_bound.1.sound (sym c.layer_bytes-size.ensures) (ends (goal.at.invariant_of-image c).After-layer_bytes-size) }
+
 pub decode_single_color-requires : goal.decode_single_color-requires
-decode_single_color-requires c =
-    record { sound = layer-sound _ _ _ c.args.bits c.args.source _ c.in_color.ensures c.requires.k_bound.1.sound (sym c.layer_bytes-size.ensures) (ends (goal.at.decode_single_color-requires c).After-layer_bytes-size); fy_in_bounds = rw c.in_color.ensures c.requires.fy_in_bounds }
+decode_single_color-requires c = record { fy_in_bounds = rw c.in_color.ensures c.requires.fy_in_bounds }
 
 pub returns : goal.returns
 returns c =

@@ -7,11 +7,11 @@ loop-x-init g c = across-start _ _ _ _ _ _
 
 pub alpha_at-alpha-requires : goal.alpha_at-alpha-requires
 alpha_at-alpha-requires g c =
-    source-dot c.args.source c.requires.sound.0 c.requires.j_bound.0 c.loop-x-test.true
+    source-dot c.args.image.source c.args.image.sound c.requires.j_bound.0 c.loop-x-test.true
 
 pub land_block-requires : goal.land_block-requires
 land_block-requires g c =
-    (across-room _ _ _ _ _ _ c.loop-x.invariant c.loop-x-test.true c.requires.j_bound.1, c.requires.sound.1)
+    (across-room _ _ _ _ _ _ c.loop-x.invariant c.loop-x-test.true c.requires.j_bound.1, c.requires.one)
 
 pub overflow_add-i : goal.overflow_add-i
 overflow_add-i g c =

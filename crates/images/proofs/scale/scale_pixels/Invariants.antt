@@ -3,4 +3,4 @@ use Rattle.images.proofs.Scaling.{Across}
 use Rattle.images.proofs.scale.scale_pixels.Given as goal
 
 abbrev pub invariant-loop-x : goal.invariant-loop-x
-invariant-loop-x g l = Across l.source l.data l.blend l.at l.j l.initial.out l.x l.i l.out
+invariant-loop-x g l = Across l.image.source l.image.«data».now l.blend l.at l.j l.initial.out l.x l.i l.out
