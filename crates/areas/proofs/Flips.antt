@@ -193,22 +193,23 @@ module _ (top bottom w : ℕ) (l : List ℕ) where
   unfolding pair_on
   pair_end i eb e = rw e at eb
 
--- ---- pairs of rows: the first j and the last j are done in b
+-- ---- pairs of rows: those above `top` and those from `bottom` on are turned
 
 module _ (W x y w h : ℕ) (l : List ℕ) where
   abbrev flip_dot : ℕ → RGBA → RGBA
   flip_dot k d = blended (dot_at l ((y + (h - 1 - (k / W - y))) * W + (x + (k % W - x)))) d
 
-  abbrev turned : ℕ → ℕ → Bool
-  turned j k = within x (x + w) (k % W) && (within y (y + j) (k / W) || within (y + (h - j)) (y + h) (k / W))
+  abbrev turned : ℕ → ℕ → ℕ → Bool
+  turned top bottom k = within x (x + w) (k % W) && (within y top (k / W) || within bottom (y + h) (k / W))
 
+  -- the first j and the last j are done in b
   abbrev pub Flip : ℕ → List ℕ → Type 0
-  Flip j b = b ≡ change (turned j) flip_dot l
+  Flip j b = b ≡ change (turned (y + j) (y + (h - j))) flip_dot l
 
   pub flip-start : Flip 0 l
   flip-start =
       let e : h - 0 ≡ h = omega arith in
-      change-none (turned 0) flip_dot l (λ k. rw (add-zero y, e, no_run y (k / W), no_run (y + h) (k / W)) (and-false (within x (x + w) (k % W))))
+      change-none (turned (y + 0) (y + (h - 0))) flip_dot l (λ k. rw (add-zero y, e, no_run y (k / W), no_run (y + h) (k / W)) (and-false (within x (x + w) (k % W))))
 
   -- the next two rows, `top` and `last`, lie in a buffer of n bytes, and are one or apart
   pub record Ready (top last n : ℕ) : Type 0 where
@@ -239,7 +240,7 @@ module _ (W x y w h : ℕ) (l : List ℕ) where
         by (inr u) = let e : top ≡ last = omega arith in inl (rw e)
 
     -- a dot of a row that is not done yet
-    off : (k row : ℕ) → k / W ≡ row → top ≤ row → row ≤ last → turned j k ≡ false
+    off : (k row : ℕ) → k / W ≡ row → top ≤ row → row ≤ last → turned (y + j) (y + (h - j)) k ≡ false
     off k row e u v =
         rw (e, within-high y top row u, within_low (y + (h - j)) (y + h) row (omega arith)) (and-false (within x (x + w) (k % W)))
 
@@ -252,7 +253,7 @@ module _ (W x y w h : ℕ) (l : List ℕ) where
           let k-row = in_row row W k (omega arith) (omega (arith, fits.across)) in
           let n-row = at-column W i row' (omega (arith, fits.across)) in
           let old : dot_at b (row' * W + i) ≡ dot_at l (row' * W + i) =
-          ap (λ (z : List ℕ). dot_at z (row' * W + i)) eb ∙ change-kept (turned j) flip_dot l (row' * W + i) (off (row' * W + i) row' n-row.0 p q) in
+          ap (λ (z : List ℕ). dot_at z (row' * W + i)) eb ∙ change-kept (turned (y + j) (y + (h - j))) flip_dot l (row' * W + i) (off (row' * W + i) row' n-row.0 p q) in
           let ej : y + (h - 1 - (row - y)) ≡ row' = omega arith in
           let ei : x + (k - row * W - x) ≡ k - row * W = omega arith in
           rw (e, k-row.0, k-row.1, ej, ei) (ap (λ (c : RGBA). blended c d) old)
@@ -262,7 +263,7 @@ module _ (W x y w h : ℕ) (l : List ℕ) where
       flip-next em =
           em
           ∙ change-by picked _ flip_dot b (λ k e. here k (place T (T + w) k) (side T L w k e) _)
-          ∙ rw eb (change-more (turned j) picked (turned (j + 1)) flip_dot l more (λ k e. apart k (side T L w k e)))
+          ∙ rw eb (change-more (turned (y + j) (y + (h - j))) picked (turned (y + (j + 1)) (y + (h - (j + 1)))) flip_dot l more (λ k e. apart k (side T L w k e)))
         where
           T : ℕ
           T = top * W + x
@@ -283,7 +284,7 @@ module _ (W x y w h : ℕ) (l : List ℕ) where
           here k (past u v) (inr s) d =
               mirror last top k _ s.0 s.1 (omega arith) (omega arith) (omega arith) (omega arith) (rw (within-high T (T + w) k v) (omega (arith, order))) d
 
-          more : (k : ℕ) → turned (j + 1) k ≡ (turned j k || picked k)
+          more : (k : ℕ) → turned (y + (j + 1)) (y + (h - (j + 1))) k ≡ (turned (y + j) (y + (h - j)) k || picked k)
           more k =
               let et : y + (j + 1) ≡ top + 1 = omega arith in
               let el : y + (h - (j + 1)) ≡ last = omega arith in
@@ -292,13 +293,14 @@ module _ (W x y w h : ℕ) (l : List ℕ) where
               (et, el, en, within-then y top (top + 1) (k / W) (omega arith) (omega arith), within-then last (last + 1) (y + h) (k / W) (omega arith) (omega arith), run_row W x w top k fits.some fits.across, run_row W x w last k fits.some fits.across)
               (spread (within x (x + w) (k % W)) (within y top (k / W)) _ _ _)
 
-          apart : (k : ℕ) → ((T ≤ k) × (k < T + w)) ⊎ ((L ≤ k) × (k < L + w)) → turned j k ≡ false
+          apart : (k : ℕ) → ((T ≤ k) × (k < T + w)) ⊎ ((L ≤ k) × (k < L + w)) → turned (y + j) (y + (h - j)) k ≡ false
           apart k (inl s) = off k top (in_row top W k (omega arith) (omega (arith, fits.across))).0 (omega arith) (omega arith)
           apart k (inr s) = off k last (in_row last W k (omega arith) (omega (arith, fits.across))).0 (omega arith) (omega arith)
 
-  pub flip-end : (j : ℕ) {b : List ℕ} → j ≡ (h + 1) / 2 → Flip j b → b ≡ flipped_on W x y w h l
+  pub flip-end : {top bottom : ℕ} {b : List ℕ} → y ≤ bottom → top + bottom ≡ y + (y + h) → b ≡ change (turned top bottom) flip_dot l → bottom ≤ top
+      → b ≡ flipped_on W x y w h l
   unfolding flipped_on area_on in_area
-  flip-end j e eb =
+  flip-end {top} {bottom} high middle eb t =
       eb
       ∙ change-where _ _ flip_dot l
-      (λ k. ap (λ (s : Bool). within x (x + w) (k % W) && s) (run-cover y (y + (h - j)) (y + j) (y + h) (k / W) (omega arith) (omega arith) (omega arith)))
+      (λ k. ap (λ (s : Bool). within x (x + w) (k % W) && s) (run-cover y bottom top (y + h) (k / W) high t (omega (arith, high, middle))))

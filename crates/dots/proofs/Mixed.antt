@@ -171,37 +171,39 @@ mixed-byte t c x p h w k l =
     sym (ap (mixed (chan (factors t c) k) (chan (terms t c) k)) (chan-four x k l))
     ∙ mixed-dot t c (rgba x x x x) p (record { r = h; g = h; b = h; a = h }) w k l
 
-pub drawn-byte : (t : Bool) (c s : RGBA) → Bytes c → Bytes s → Whole t c
-    → (k : ℕ) → k < 4 → let x = chan s k in chan (drawn t c (rgba x x x x)) k ≡ chan (drawn t c s) k
-drawn-byte t c s p q w k h = sym (mixed-byte t c (chan s k) p (chan-byte s q k h) w k h) ∙ mixed-dot t c s p q w k h
+-- so it is what its factor and its term make of it
+pub byte-mixed : (t : Bool) (c : RGBA) (x : ℕ) → Bytes c → x ≤ 255 → Whole t c
+    → (j : ℕ) → j < 64 → chan (drawn t c (rgba x x x x)) (j % 4) ≡ mixed (get_or (lanes (factors t c)) j 0) (get_or (lanes (terms t c)) j 0) x
+byte-mixed t c x p h w j u =
+    sym (rw (lane-at (factors t c) refl j u, lane-at (terms t c) refl j u) (mixed-byte t c x p h w (j % 4) (omega arith)))
 
 -- ---- the loop over the bytes of at most 16 dots, from byte `from`
 
-module _ (t : Bool) (c : RGBA) where
-  abbrev pub Mixes : ℕ → ℕ → List ℕ → List ℕ → Type 0
-  Mixes from j l b = Over from (from + j) (λ i. let s = get_or l i 0 in chan (drawn t c (rgba s s s s)) ((i - from) % 4)) l b
+abbrev pub Mixes : List ℕ → List ℕ → ℕ → ℕ → List ℕ → List ℕ → Type 0
+Mixes m k from j l b = Over from (from + j) (λ i. mixed (get_or m (i - from) 0) (get_or k (i - from) 0) (get_or l i 0)) l b
 
-  pub mix-start : (from : ℕ) (l : List ℕ) → Mixes from 0 l l
-  mix-start from l = rw add-zero (over_none from _ l)
+pub mix-start : (m k : List ℕ) (from : ℕ) (l : List ℕ) → Mixes m k from 0 l l
+mix-start m k from l = rw add-zero (over_none from _ l)
 
-  pub mix-turn : (from j : ℕ) (l b : List ℕ) (v : ℕ) → from + j < length l → Mixes from j l b
-      → (let s = get_or b (from + j) 0 in v ≡ chan (drawn t c (rgba s s s s)) (j % 4)) → Mixes from (j + 1) l (set b (from + j) v)
-  mix-turn from j l b v h o e =
-      let up : from + (j + 1) ≡ from + j + 1 = omega arith in
-      let back : j ≡ from + j - from = omega arith in
-      let old : get_or b (from + j) 0 ≡ get_or l (from + j) 0 = o.kept (from + j) (inr (omega arith)) in
-      rw up (over-step from (from + j) _ l b v (omega arith) h o (e ∙ rw old (ap (λ (n : ℕ). let s = get_or l (from + j) 0 in chan (drawn t c (rgba s s s s)) (n % 4)) back)))
+pub mix-turn : (m k : List ℕ) (from j : ℕ) (l b : List ℕ) (v : ℕ) → from + j < length l → Mixes m k from j l b
+    → v ≡ mixed (get_or m j 0) (get_or k j 0) (get_or b (from + j) 0) → Mixes m k from (j + 1) l (set b (from + j) v)
+mix-turn m k from j l b v h o e =
+    let up : from + (j + 1) ≡ from + j + 1 = omega arith in
+    let back : j ≡ from + j - from = omega arith in
+    let old : get_or b (from + j) 0 ≡ get_or l (from + j) 0 = o.kept (from + j) (inr (omega arith)) in
+    rw up (over-step from (from + j) _ l b v (omega arith) h o (e ∙ rw old (ap (λ (n : ℕ). mixed (get_or m n 0) (get_or k n 0) (get_or l (from + j) 0)) back)))
 
-  pub mix-end : (at count : ℕ) (l b : List ℕ) → Bytes c → ((i : ℕ) → get_or l i 0 ≤ 255) → Whole t c → (at + count) * 4 ≤ length l
-      → Mixes (at * 4) (count * 4) l b → b ≡ change (within at (at + count)) (λ _ s. drawn t c s) l
-  mix-end at count l b p q whole h o =
-      let e : at * 4 + count * 4 ≡ (at + count) * 4 = omega arith in
-      over-change at (at + count) _ l b _ h (rw e at o) one
-    where
-      one : (i : ℕ) → at * 4 ≤ i → i < (at + count) * 4
-          → (let s = get_or l i 0 in chan (drawn t c (rgba s s s s)) ((i - at * 4) % 4)) ≡ chan (drawn t c (dot_at l (i / 4))) (i % 4)
-      one i u v =
-          let s = dot_at l (i / 4) in
-          let z : (i - at * 4) % 4 ≡ i % 4 = omega arith in
-          rw (z, byte_of l (i / 4) i (i % 4) (omega arith) (omega arith))
-          (drawn-byte t c s p (record { r = q _; g = q _; b = q _; a = q _ }) whole (i % 4) (omega arith))
+pub mix-end : (m k : List ℕ) (at count : ℕ) (t : Bool) (c : RGBA) (l b : List ℕ) → Bytes c → ((i : ℕ) → get_or l i 0 ≤ 255) → Whole t c
+    → m ≡ lanes (factors t c) → k ≡ lanes (terms t c) → count ≤ 16 → (at + count) * 4 ≤ length l
+    → Mixes m k (at * 4) (count * 4) l b → b ≡ change (within at (at + count)) (λ _ s. drawn t c s) l
+mix-end m k at count t c l b p q whole em ek few h o =
+    let e : at * 4 + count * 4 ≡ (at + count) * 4 = omega arith in
+    over-change at (at + count) _ l b _ h (rw e at o) one
+  where
+    one : (i : ℕ) → at * 4 ≤ i → i < (at + count) * 4
+        → mixed (get_or m (i - at * 4) 0) (get_or k (i - at * 4) 0) (get_or l i 0) ≡ chan (drawn t c (dot_at l (i / 4))) (i % 4)
+    one i u v =
+        let s = dot_at l (i / 4) in
+        let z : (i - at * 4) % 4 ≡ i % 4 = omega arith in
+        rw (lane-at (factors t c) em (i - at * 4) (omega arith), lane-at (terms t c) ek (i - at * 4) (omega arith), z, byte_of l (i / 4) i (i % 4) (omega arith) (omega arith))
+        (mixed-dot t c s p (record { r = q _; g = q _; b = q _; a = q _ }) whole (i % 4) (omega arith))

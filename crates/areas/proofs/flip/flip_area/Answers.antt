@@ -1,4 +1,4 @@
-use Rattle.std.proofs.Common.{◌∙◌, arith}
+use Rattle.std.proofs.Common.{◌≡◌, ◌∙◌, ◌+◌, ◌/◌, arith}
 use Rattle.areas.proofs.Flips.{flip-start, flip-room, flip-next, flip-end}
 use Rattle.areas.proofs.flip.flip_area.Goals as goal
 
@@ -15,4 +15,6 @@ loop-j-preserved c =
     flip-next _ _ _ _ _ _ c.requires _ (omega arith) c.loop-j.invariant (c.flip_rows.ensures ∙ rw (c.start_of-top.ensures, c.start_of-bottom.ensures))
 
 pub returns : goal.returns
-returns c = flip-end _ _ _ _ _ _ _ (omega arith) c.loop-j.invariant
+returns c =
+    let j : c.loop-j.j ≡ (c.args.area.h + 1) / 2 = omega arith in
+    flip-end _ _ _ _ _ _ (omega arith) (omega (arith, j)) c.loop-j.invariant (omega (arith, j))
