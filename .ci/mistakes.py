@@ -12,6 +12,7 @@ COPIES = "target/edits"
 # an edit names a function, or a claim, whose name begins like a type's, before a colon
 NAMED = re.compile(r"((?:[A-Za-z0-9_]+::)*[a-z][A-Za-z0-9_]*|(?:[A-Za-z0-9_]+::)+[A-Za-z0-9_]+):(?: |$)")
 FUNCTION = re.compile(r"^( *)(?:pub(?:\(crate\))? )?(?:extern \"C\" )?fn ([a-z0-9_]+)[<(]", re.M)
+IMPL = re.compile(r"^impl(?:<[^>]*>)? (?:([A-Za-z0-9_]+)(?:<[^>]*>)? for )?([A-Za-z0-9_]+)", re.M)
 # what says that a proof file no longer fits the text, and not that a fact does not hold
 UNFIT = re.compile(r"that can be named from here|has no field|is not in scope|was not admitted")
 
@@ -42,13 +43,19 @@ def mistakes(path):
 
 
 def around(text, place):
-    """The function of a source text that the place is in: the last that begins before it and has not ended there."""
+    """The function of a source text that the place is in: the last that begins before it and has not ended there. A method
+    is named with its type, and one of a trait with both, as Rattle names them."""
     line = text.find("\n", place)
     begun = [m for m in FUNCTION.finditer(text[: line if line >= 0 else len(text)])]
     if not begun:
         return None
     last = begun[-1]
-    return None if f"\n{last.group(1)}}}\n" in text[last.end() : place] else last.group(2)
+    if f"\n{last.group(1)}}}\n" in text[last.end() : place]:
+        return None
+    if not last.group(1):
+        return last.group(2)
+    trait, kind = [m for m in IMPL.finditer(text[: last.start()])][-1].groups()
+    return f"{kind}{trait or ''}::{last.group(2)}"
 
 
 def changed(folder, pairs):
@@ -84,12 +91,15 @@ def check(folder, pairs):
 
 def fails(said, name):
     """Whether the function fails by its own proof: an error in its files, or a goal that stays open."""
-    own = [line for line in said.splitlines() if f"/{name}/" in line and ": error: " in line and not UNFIT.search(line)]
+    own = [line for line in said.splitlines() if f"/{name.replace('::', '/')}/" in line and ": error: " in line and not UNFIT.search(line)]
     return bool(own) or bool(re.search(rf"^fn \S*::{name}: (not proved|no proof: (expected|.*`search` did not))", said, re.M))
 
 
 def unproved(said, name):
-    return bool(re.search(rf"^fn \S*::{re.escape(name.split('::')[-1])}: (no proof|not proved)", said, re.M))
+    """An edit names a method by its type, which a trait's name may follow here."""
+    *kind, last = name.split("::")
+    own = rf"{kind[-1]}[A-Za-z0-9_]*::" if kind else ""
+    return bool(re.search(rf"^fn \S*::{own}{last}: (no proof|not proved)", said, re.M))
 
 
 def refused(said, told, names):
