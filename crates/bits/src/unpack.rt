@@ -44,7 +44,8 @@ impl BitBrush for Put {
 
     // Where it is put the bit is a factor of the alpha, and not a test.
     fn draw_bit(self, buf: &mut [u8], at: usize, bit: u8, n: usize) {
-        // A bit that is 0 and is blended leaves the dots as they are.
+        // A bit that is 0 and is blended leaves the dots as they are. Both are looked at together, with
+        // no branch between them.
         if self.blend & (bit == 0) {
             return;
         }

@@ -1,5 +1,6 @@
 -- An image's entry that keeps the rules: where its data are, and its rows as rows of bits. Assumes nothing.
 use Rattle.std.proofs.Common.{◌≡◌, sym, ap, ◌∙◌, Bool, true, List, ℕ, ◌+◌, ◌-◌, ◌*◌, ◌/◌, ◌%◌, ◌^◌, ◌≤◌, ◌<◌, div-lt_iff_lt-mul, mul-le-mul_right, mul_comm, add-mul, add_assoc, arith, drop, get_or-drop, leb-true, eqb-true}
+use Rattle.std.specs.Int.{div_ceil}
 use Rattle.colour.specs.Colour.{with_alpha}
 use Rattle.colour.proofs.Tests.{and_both}
 use Rattle.dots.specs.Dots.{dot_at, change, within, drawn}
@@ -32,6 +33,10 @@ image-rules n e h =
       wide = leb-true _ _ b.1;
       part = leb-true _ _ a.1;
     }
+
+-- eighths of a width, rounded up, are a row's bytes
+pub row-size : {n : ℕ} (w : ℕ) → n ≡ div_ceil w 8 → n ≡ row_bytes w
+row-size w e = omega (arith, e)
 
 module _ {n : ℕ} {e : Entry} (g : Image n e) {j : ℕ} (h : j < e.h) where
   -- row j's bits lie in the data part

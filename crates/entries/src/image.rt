@@ -18,7 +18,7 @@ fn image_row(buf: &mut [u8], at: usize, w: usize, e: Entry, j: usize, data: &[u8
     requires color { stamp.color ≡ e.color }
     ensures { buf.new ≡ change (within at (at + w)) (λ i d. drawn stamp.entry.mix.multiply (image_pixel «data».now e (i - at) j) d) buf.old }
 {
-    let size = (e.original_width as usize + 7) / 8;
+    let size = (e.original_width as usize).div_ceil(8);
     let from = e.start + j / e.stretch_y as usize * size;
     draw_bits(buf, at, w, data, from, e.stretch_x as usize, stamp);
 }

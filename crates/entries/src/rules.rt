@@ -19,7 +19,7 @@ fn good_stretch(e: Entry) -> bool
 fn good_image(n: usize, e: Entry) -> bool
     ensures { result ≡ good_image n e }
 {
-    let size = (e.original_width as usize + 7) / 8 * e.original_height as usize;
+    let size = (e.original_width as usize).div_ceil(8) * e.original_height as usize;
     e.start <= n && size <= n - e.start && good_stretch(e)
 }
 

@@ -73,6 +73,8 @@ fn land_block<const ONE: bool>(out: &mut [u8], at: usize, count: usize, pixel: R
     land_run(out, at, count, pixel, blend);
 }
 
+// The place of each block is added up, as that of each bit in the stretched rows of bits: so a source dot
+// takes no product for it.
 fn scale_pixels<const ONE: bool>(out: &mut [u8], at: usize, image: Image, j: usize, blend: bool)
     requires one { ONE ≡ true → image.source.fx ≡ 1 }
     requires j_bound { (j < image.source.h * image.source.fy) × ((at + image.source.w * image.source.fx) * 4 ≤ length out.old) }

@@ -13,6 +13,8 @@ pub fn factor_of(stretch: u8) -> u32
     (stretch as u32).max(1)
 }
 
+// A chain of ifs: as one condition of four tests the check asks for the joins of its tests, under names
+// of its own.
 pub fn is_large(w: u32, h: u32, fx: u32, fy: u32) -> bool
     requires { (fx ≤ 255) × (fy ≤ 255) }
     ensures { result ≡ is_large w h fx fy }

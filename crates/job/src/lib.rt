@@ -24,7 +24,8 @@ use numbers::Refusal;
 pub use records::{Rec, next_record};
 pub use sound::Job;
 
-// The number that the records from `at` on give, all of which are to be commands.
+// What the records from `at` on are refused for: all of them are to be commands, and no more than a job
+// may have.
 fn rest_refusal(s: &[u8], at: usize) -> Result<(), Refusal>
     requires { at ≤ length s.now }
     ensures { number result ≡ job_number (sound_commands s.now (records s.now at)) (commands_in s.now (records s.now at)) }

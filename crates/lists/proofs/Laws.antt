@@ -1,4 +1,6 @@
--- What the steps of a lent list's row make, put together. Assumes nothing.
+-- A lent list's row, entry by entry: judged one after the other, drawn one after the other, and at the end the
+-- row that the contract tells. No step cites it any more, since rows has the loops: it states these turns for the
+-- reader of docs/TRACE.md. Assumes nothing.
 use Prim.Native.Nat.{ℕ, zero, suc, ◌+◌, ◌*◌, ◌≤◌, ◌<◌}
 use mathlib.Core.Path.{◌≡◌, refl, ap, sym, ◌∙◌}
 use mathlib.Core.Bool.{Bool, true, false, ◌&&◌}

@@ -1,5 +1,5 @@
-// The row of a list of entries that the caller lends, by the same functions for one entry as the row
-// of a plan: what is good is told by `good_entry`, and what is drawn by `draw_entry`.
+// The row of a list of entries that the caller lends, by the same functions of rows as the row of a
+// plan: which entries are good is told by `good_entries`, and they are drawn by `draw_rows`.
 #![tactic(auto)]
 
 ghost use Rattle.std.specs.Prelude.{◌≡◌, length};

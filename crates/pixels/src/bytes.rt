@@ -110,7 +110,8 @@ fn draw_some(
     }
 }
 
-// With `full` the pixels are multiplied, and all of them are clear or opaque.
+// With `full` the pixels are multiplied, and all of them are clear or opaque. Two flags, and no kind with
+// three: each call gives both as constants, and the definitions take the mode as a Bool.
 pub fn draw_bytes(
     buf: &mut [u8],
     at: usize,

@@ -22,7 +22,7 @@ pub fn rows_of(w: u32, h: u32) -> u32
 }
 
 // Whether n bytes are too few for w by h dots of `BYTES` each. A product of two u32 fits a usize, and
-// some times it may not: so the length is divided.
+// `BYTES` times it may not: so the length is divided.
 fn lacks_room<const BYTES: usize>(w: u32, h: u32, n: usize) -> bool
     requires { 0 < BYTES }
     ensures { result ≡ ltb n (BYTES * (w * h)) }

@@ -1,6 +1,7 @@
 // The call that a line stands for.
 use super::drawn::{filled, put};
 use super::record::{LINE, canvas, copied, image_at};
+use numbers::DONE;
 use thermal_image::{Answer, Rgb, ThermalImage};
 use vectors::hex::number_at;
 use vectors::seeds::fill_from;
@@ -21,7 +22,7 @@ fn shown(line: &[u8; LINE], buf: &[u8], out: &mut [u8]) -> Rgb {
     let image = image_at(line);
     match line[0] {
         b'g' => Rgb {
-            number: 0,
+            number: DONE,
             image,
             width: 0,
             height: image.get_height(),
@@ -59,5 +60,8 @@ fn written(line: &[u8; LINE], buf: &mut [u8]) -> Option<Answer> {
         return None;
     }
     fill_from(buf, dots * 4, number_at(line, 69, 8));
-    Some(Answer { number: 0, image })
+    Some(Answer {
+        number: DONE,
+        image,
+    })
 }

@@ -1,4 +1,4 @@
--- Each public function's contract leaves one answer, and those of `row` and `rows` one content of the buffer. Assumes nothing.
+-- Each public function's contract leaves one answer, and those of `draw_rows`, `row` and `rows` one content of the buffer. Assumes nothing.
 use Rattle.numbers.proofs.OneAnswer.{OneAnswer, OneContent, both}
 use Rattle.numbers.proofs.Refusals.{one_answer}
 use Rattle.rows.proofs.good_sizes.Reads as good-sizes

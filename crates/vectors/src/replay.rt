@@ -19,6 +19,7 @@ pub fn replay<F: FnMut(&[u8]) -> bool>(
     agrees: F,
 ) -> io::Result<()>
     requires { F.IsAlwaysCallable agrees }
+    ensures { Unit {0} }
 {
     let mut list = File::open(rt, path)?;
     let n = read_full(&mut list, space)?;
