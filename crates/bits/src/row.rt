@@ -35,9 +35,13 @@ fn draw_eights<B: BitBrush>(
     requires { ((at + count) * 4 ≤ length buf.old) × Shown from 1 count (length «data».now) }
     ensures { buf.new ≡ bits_on (B.dot brush) «data».now from 1 at count buf.old }
 {
-    for x in 0..count.div_ceil(8) {
-        let i = x * 8;
-        brush.draw_byte(buf, at + i, data[from + x], (count - i).min(8));
+    let whole = count / 8;
+    for x in 0..whole {
+        brush.draw_byte(buf, at + x * 8, data[from + x], 8);
+    }
+    let rest = count % 8;
+    if rest > 0 {
+        brush.draw_byte(buf, at + whole * 8, data[from + whole], rest);
     }
 }
 

@@ -43,7 +43,7 @@ impl BitBrush for Stamp<'_> {
     // Each bit is told by a mask for each byte of its dot, so that the compiler makes vectors of the
     // loop.
     fn draw_byte(self, buf: &mut [u8], at: usize, byte: u8, n: usize) {
-        let masks = [
+        let masks = &[
             128, 128, 128, 128, 64, 64, 64, 64, 32, 32, 32, 32, 16, 16, 16, 16, 8, 8, 8, 8, 4, 4,
             4, 4, 2, 2, 2, 2, 1, 1, 1, 1,
         ];

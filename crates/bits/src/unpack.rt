@@ -34,7 +34,7 @@ impl BitBrush for Put {
     // Each bit is told by a mask as wide as a dot, and not by a shift, so that the compiler makes
     // vectors of the loop.
     fn draw_byte(self, buf: &mut [u8], at: usize, byte: u8, n: usize) {
-        let masks = [128, 64, 32, 16, 8, 4, 2, 1];
+        let masks = &[128, 64, 32, 16, 8, 4, 2, 1];
         for k in 0..n {
             let old = get_dot(buf, at + k);
             let on = (byte as u32) & masks[k] != 0;

@@ -32,9 +32,12 @@ impl Brush for Pen {
     ghost dot = { λ p s. drawn p.multiply p.color s };
 
     fn draw_dots(&self, buf: &mut [u8], at: usize, count: usize) {
+        // Taken before the loop: behind `self` both would be read again for each dot.
+        let color = self.color;
+        let multiply = self.multiply;
         for i in at..at + count {
             let s = get_dot(buf, i);
-            let d = draw_dot(s, self.multiply, self.color);
+            let d = draw_dot(s, multiply, color);
             set_dot(buf, i, d);
         }
     }

@@ -3,6 +3,7 @@
 ghost use Rattle.std.specs.Prelude.{◌≤◌};
 
 use super::{MOST_BYTES, first_line, list_job, row_line};
+use plan::Translated;
 use std::io;
 
 // Space for a job and a byte more, which tells that one is too long.
@@ -13,9 +14,11 @@ pub fn print_listing(rt: &HostRuntime, job: &[u8]) -> io::Result<()>
     ensures { Unit {0} }
 {
     let t = list_job(job);
-    let mut bytes = [0; 65536];
-    let used = first_line(t, &mut bytes).unwrap_or(0);
-    let mut block = Block { bytes, used };
+    let mut block = Block {
+        bytes: [0; 65536],
+        used: 0,
+    };
+    block.begin(t);
     let mut line = [0; 65536];
     for row in 0..t.plan.height {
         let answer = rows::row(t.plan, row, job, &mut line);
@@ -33,6 +36,10 @@ struct Block {
 }
 
 impl Block {
+    fn begin(&mut self, t: Translated) {
+        self.used = first_line(t, &mut self.bytes).unwrap_or(0);
+    }
+
     // A row's line after the text, which is written where there is no room after it.
     fn put_row(&mut self, rt: &HostRuntime, row: u32, ink: u32) -> io::Result<()> {
         if let Ok(n) = row_line(row, ink, &mut self.bytes[self.used..]) {

@@ -1,3 +1,4 @@
+use Rattle.std.proofs.Common.{◌≡◌, ◌/◌, arith}
 use Rattle.bits.proofs.Rows.{done_none, done-more, done-all}
 use Rattle.bits.proofs.row.draw_eights.Goals as goal
 
@@ -6,7 +7,9 @@ loop-x-init g c = done_none _ _ _ _ _ _
 
 pub loop-x-preserved : goal.loop-x-preserved
 loop-x-preserved g c =
-    done-more _ _ _ _ _ _ c.loop-x.invariant (rw c.div_ceil-x-end.ensures at c.loop-x-test.true) c.min.ensures c.draw_byte.ensures
+    done-more _ _ _ _ _ _ c.loop-x.invariant (omega arith) (omega arith) c.draw_byte.ensures
 
-pub returns : goal.returns
-returns g c = done-all _ _ _ _ _ _ c.loop-x.invariant (rw c.div_ceil-x-end.ensures at c.loop-x-test.false)
+pub returns-then-rest-gt0 : goal.returns-then-rest-gt0
+returns-then-rest-gt0 g c =
+    let whole : c.loop-x.x ≡ c.args.count / 8 = omega arith in
+    done-all _ _ _ _ _ _ (done-more _ _ _ _ _ _ (rw whole at c.loop-x.invariant) (omega arith) (omega arith) c.draw_byte-then-rest-gt0.ensures) (omega arith)
