@@ -1,3 +1,4 @@
+use Rattle.std.proofs.Common.{rules}
 use Rattle.refusals.specs.Refusals.{grow_refusal}
 use Rattle.refusals.proofs.Codes.{first_then, passing, stopping}
 use Rattle.refusals.proofs.grow_refusal.Goals as goal
@@ -12,4 +13,4 @@ returns-in_err-tall_refusal c = rw first_then (passing c.in_ok-canvas_refusal.en
 
 pub returns : goal.returns
 unfolding grow_refusal
-returns c = rw (first_then, ← c.max.ensures) (passing c.in_ok-canvas_refusal.ensures (passing c.in_ok-tall_refusal.ensures c.room_refusal.ensures))
+returns c = rw first_then (passing c.in_ok-canvas_refusal.ensures (passing c.in_ok-tall_refusal.ensures (search rules)))

@@ -1,3 +1,4 @@
+use Rattle.std.proofs.Common.{rules}
 use Rattle.refusals.specs.Refusals.{width_refusal}
 use Rattle.refusals.proofs.Codes.{passing, stopping}
 use Rattle.refusals.proofs.width_refusal.Goals as goal
@@ -8,4 +9,4 @@ returns-in_err-canvas_refusal c = stopping _ _ _ c.from_residual.ensures.1 c.in_
 
 pub returns : goal.returns
 unfolding width_refusal
-returns c = passing c.in_ok-canvas_refusal.ensures c.wide_refusal.ensures
+returns c = passing c.in_ok-canvas_refusal.ensures (search rules)

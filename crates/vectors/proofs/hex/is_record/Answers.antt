@@ -14,7 +14,7 @@ returns-then-grows-s c =
           elim c.if-width-number_at.branch [
             | then-width-number_at v ↦
                 rw (← c.number_at.ensures, eq-eqb _ _ v.if-width-number_at.true, ← v.number_at-then-width-number_at.ensures, sym v.value-is ∙ w.if-height-number_at.true, sym w.value-is ∙ c.if-grows-s.true)
-                (c.eq.ensures ∙ same-color _ _ ∙ ap (same_color c.args.paper) c.color_at.ensures)
+                (let e = c.eq.ensures ∙ same-color _ _ in e ∙ ap (same_color c.args.paper) (search rules))
             | else-width-number_at v ↦ absurd (search rules)
           ]
       | else-height-number_at w ↦ absurd (search rules)
