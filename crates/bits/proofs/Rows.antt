@@ -1,5 +1,5 @@
 -- The loop over a row of bits that is not stretched, eight dots at a time. Assumes nothing.
-use Rattle.std.proofs.Common.{◌≡◌, refl, List, ℕ, ◌+◌, ◌-◌, ◌*◌, ◌/◌, ◌%◌, ◌^◌, ◌≤◌, ◌<◌, min, get_or, arith}
+use Rattle.std.proofs.Common.{◌≡◌, refl, ap, List, ℕ, ◌+◌, ◌-◌, ◌*◌, ◌/◌, ◌%◌, ◌^◌, ◌≤◌, ◌<◌, min, get_or, arith}
 use Rattle.colour.specs.declared.RGBA.{RGBA}
 use Rattle.dots.proofs.Laws.{run_none, run_more}
 use Rattle.bits.specs.Bits.{bit_alpha, Shown, bits_on}
@@ -32,7 +32,7 @@ module _ (f : ℕ → RGBA → RGBA) (bytes : List ℕ) (from at count : ℕ) (l
 
   pub done-more : {x n : ℕ} {b m : List ℕ} → Done x b → x < bytes-of-row count → n ≡ min (count - x * 8) 8
       → m ≡ byte_on f (get_or bytes (from + x) 0) (at + x * 8) n b → Done (x + 1) m
-  unfolding bits_on byte_on bit_alpha
+  unfolding bits_on byte_on
   done-more {x} {n} {b} s u e em =
       let i : min (x * 8) count ≡ x * 8 = omega arith in
       let j : at + min ((x + 1) * 8) count ≡ at + x * 8 + n = omega arith in
@@ -41,9 +41,9 @@ module _ (f : ℕ → RGBA → RGBA) (bytes : List ℕ) (from at count : ℕ) (l
       same : (q : ℕ) → at + x * 8 ≤ q → q < at + x * 8 + n → (d : RGBA)
           → f (get_or bytes (from + x) 0 / 2 ^ (7 - (q - (at + x * 8))) % 2 * 255) d ≡ f (bit_alpha bytes from ((q - at) / 1)) d
       same q v w d =
-          let y : (q - at) / 1 / 8 ≡ x = omega arith in
-          let z : (q - at) / 1 % 8 ≡ q - (at + x * 8) = omega arith in
-          rw (y, z) refl
+          let y : x * 8 / 8 ≡ x = omega arith in
+          let z : x * 8 + (q - (at + x * 8)) ≡ q - at = omega arith in
+          ap (λ (a : ℕ). f a d) (rw (y, z) at (byte-bit bytes from (x * 8) (q - (at + x * 8)) (omega arith) (omega arith)))
 
   pub done-all : {x : ℕ} {b : List ℕ} → Done x b → bytes-of-row count ≤ x → b ≡ bits_on f bytes from 1 at count l
   done-all {x} s u = let e : min (x * 8) count ≡ count = omega arith in rw e at s.sofar

@@ -1,6 +1,6 @@
 -- A lent list's row, entry by entry: judged one after the other, drawn one after the other, and at the end the
--- row that the contract tells. No step cites it any more, since rows has the loops: it states these turns for the
--- reader of docs/TRACE.md. Assumes nothing.
+-- row that the contract tells. The turns between are those of the loops of rows, which draw all entries at once.
+-- Assumes nothing.
 use Prim.Native.Nat.{ℕ, zero, suc, ◌+◌, ◌*◌, ◌≤◌, ◌<◌}
 use mathlib.Core.Path.{◌≡◌, refl, ap, sym, ◌∙◌}
 use mathlib.Core.Bool.{Bool, true, false, ◌&&◌}
@@ -76,6 +76,10 @@ module _ (s : List ℕ) (W H : ℕ) (paper : RGBA) (es : List Entry) (row : ℕ)
       → (number ≡ refusal_of (good_sizes W H (length es) && good) W H row (length l)) × (m ≡ unless_refused number (row_on [] W paper [] row l) l) → length m ≡ length l → Drawn number 0 m
   unfolding good_plan row_on entries_on firsts
   drawn-start {number} eg eb e = record { upto = omega arith; decided = eb.0 ∙ ap (λ (g : Bool). refusal_of (good_sizes W H (length es) && g) W H row (length l)) eg; same = e; sofar = eb.1 }
+
+  -- a row that is given, with all entries drawn
+  pub drawn-all : {m : List ℕ} → done ≡ row_refusal W H (length s) (length es) es row (length l) → length m ≡ length l → m ≡ row_on s W paper es row l → Drawn done (length es) m
+  drawn-all e same em = record { upto = le_refl (length es); decided = e; same = same; sofar = em ∙ ap (λ (fs : List Entry). row_on s W paper fs row l) (sym (firsts-all es (length es) refl)) ∙ taken _ l refl }
 
   module _ {number i : ℕ} {m : List ℕ} (d : Drawn number i m) where
     given : number ≡ done → Given W H (length s) (length es) es row (length l)

@@ -3,7 +3,8 @@ use Rattle.numbers.proofs.Refusals.{never}
 use mathlib.Core.Path.{refl}
 use Rattle.rows.proofs.Rules.{row-given, all-wider}
 use Rattle.rows.proofs.Lines.{band-one}
-use Rattle.rows.proofs.Answers.{row-refused, row_kept, row-drawn, row-answered}
+use Rattle.rows.proofs.Answers.{row-refused, row_kept}
+use Rattle.lists.proofs.Laws.{drawn-all, drawn-end}
 use Rattle.lists.proofs.row_of_entries.Goals as goal
 
 pub returns-in-Err : goal.returns-in-Err
@@ -28,7 +29,9 @@ shape_of-line c = omega arith
 
 pub returns : goal.returns
 returns c =
+    let a = c.args in
     let e = rw c.good_list-good.ensures at c.in_default.ensures in
-    let paper = c.args.paper_color in
-    let d = c.draw_rows.ensures ∙ band-one _ _ paper _ _ _ in
-    record { value = row-answered _ _ _ paper _ _ _ _ e refl d c.ink_of-ink.ensures; line_after = row-drawn _ _ _ paper _ _ _ _ e refl d }
+    let d = c.draw_rows.ensures ∙ band-one _ _ a.paper_color _ _ _ in
+    let t = drawn-all a.«data».now a.width a.height a.paper_color a.entries.now a.row a.line.now e (omega arith) d in
+    let r = drawn-end a.«data».now a.width a.height a.paper_color a.entries.now a.row a.line.now t refl (refl, c.ink_of-ink.ensures, refl) in
+    record { value = r.0; line_after = r.1 }
