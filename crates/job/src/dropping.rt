@@ -65,7 +65,8 @@ fn flip_reason(width: u32, height: u32, x: u32, y: u32, w: u32, h: u32) -> Resul
     tall_refusal(reached(height, y, h))
 }
 
-// Into the two loops of a run, which look at a job's commands one after the other.
+// A run and a translation ask this of each command: it is drawn into their loops, since a call makes a run
+// whose commands are all dropped take a quarter longer.
 #[inline(always)]
 pub fn command_reason(width: u32, height: u32, c: Command) -> Result<(), Refusal>
     ensures { number result ≡ reason_of width height c }

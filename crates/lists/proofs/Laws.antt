@@ -1,6 +1,6 @@
 -- A lent list's row, entry by entry: judged one after the other, drawn one after the other, and at the end the
--- row that the contract tells. The turns between are those of the loops of rows, which draw all entries at once.
--- Assumes nothing.
+-- row that the contract tells. `row_of_entries` ends by `drawn-all` and `drawn-end`; no step cites the turns between,
+-- since the loops are those of rows, whose own laws say the same of them. Assumes nothing.
 use Prim.Native.Nat.{ℕ, zero, suc, ◌+◌, ◌*◌, ◌≤◌, ◌<◌}
 use mathlib.Core.Path.{◌≡◌, refl, ap, sym, ◌∙◌}
 use mathlib.Core.Bool.{Bool, true, false, ◌&&◌}
