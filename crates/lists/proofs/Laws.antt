@@ -1,6 +1,6 @@
 -- A lent list's row, entry by entry: judged one after the other, drawn one after the other, and at the end the
--- row that the contract tells. `row_of_entries` ends by `drawn-all` and `drawn-end`; no step cites the turns between,
--- since the loops are those of rows, whose own laws say the same of them. Assumes nothing.
+-- row that the contract tells. The loops are those of rows: `judged-all` and `all-turns` say that the verdict and the
+-- row of their definitions are what these turns give. Assumes nothing.
 use Prim.Native.Nat.{ℕ, zero, suc, ◌+◌, ◌*◌, ◌≤◌, ◌<◌}
 use mathlib.Core.Path.{◌≡◌, refl, ap, sym, ◌∙◌}
 use mathlib.Core.Bool.{Bool, true, false, ◌&&◌}
@@ -16,6 +16,7 @@ use Rattle.numbers.specs.Numbers.{limit, done}
 use Rattle.std.specs.Prelude.{if◌then◌else◌}
 use Rattle.colour.specs.declared.RGBA.{RGBA}
 use Rattle.dots.specs.Dots.{change, within}
+use Rattle.dots.proofs.Laws.{length-change}
 use Rattle.entries.specs.declared.Entry.{Entry}
 use Rattle.entries.specs.Entries.{good_entry}
 use Rattle.entries.specs.Steps.{entry_rows, Placed}
@@ -56,8 +57,21 @@ module _ (W H n : ℕ) (es : List Entry) where
   unfolding firsts
   good_turn i ev er = let u : i + 1 ≡ suc i = add-one i in er ∙ rw (u, ev) (sym (good_more W H n (firsts i es) (get_or es i no_entry)))
 
+  -- the verdict after i turns
+  pub judged : ℕ → Bool
+  judged zero = true
+  judged (suc i) = judged i && good_entry W H n (get_or es i no_entry)
+
+  judged-turns : (i : ℕ) → judged i ≡ good_entries W H n (firsts i es)
+  unfolding judged
+  judged-turns zero = good_none
+  judged-turns (suc i) = good_turn i (judged-turns i) refl ∙ ap (λ (k : ℕ). good_entries W H n (firsts k es)) (add-one i)
+
   pub good-all : {i : ℕ} → i ≡ length es → good_entries W H n (firsts i es) ≡ good_entries W H n es
   good-all {i} e = ap (good_entries W H n) (firsts-all es i e)
+
+  pub judged-all : judged (length es) ≡ good_entries W H n es
+  judged-all = judged-turns (length es) ∙ good-all refl
 
 -- ---- the row, entry by entry
 
@@ -76,10 +90,6 @@ module _ (s : List ℕ) (W H : ℕ) (paper : RGBA) (es : List Entry) (row : ℕ)
       → (number ≡ refusal_of (good_sizes W H (length es) && good) W H row (length l)) × (m ≡ unless_refused number (row_on [] W paper [] row l) l) → length m ≡ length l → Drawn number 0 m
   unfolding good_plan row_on entries_on firsts
   drawn-start {number} eg eb e = record { upto = omega arith; decided = eb.0 ∙ ap (λ (g : Bool). refusal_of (good_sizes W H (length es) && g) W H row (length l)) eg; same = e; sofar = eb.1 }
-
-  -- a row that is given, with all entries drawn
-  pub drawn-all : {m : List ℕ} → done ≡ row_refusal W H (length s) (length es) es row (length l) → length m ≡ length l → m ≡ row_on s W paper es row l → Drawn done (length es) m
-  drawn-all e same em = record { upto = le_refl (length es); decided = e; same = same; sofar = em ∙ ap (λ (fs : List Entry). row_on s W paper fs row l) (sym (firsts-all es (length es) refl)) ∙ taken _ l refl }
 
   module _ {number i : ℕ} {m : List ℕ} (d : Drawn number i m) where
     given : number ≡ done → Given W H (length s) (length es) es row (length l)
@@ -106,6 +116,13 @@ module _ (s : List ℕ) (W H : ℕ) (paper : RGBA) (es : List Entry) (row : ℕ)
         by true t em ek = ek ∙ rw em (row_more s W paper es row l i (given (eqb-true number done t)).good.sizes.some)
         by false t em ek = ek ∙ em
 
+    -- an entry changes no length
+    same-next : number ≡ done → length (entry_rows s (get_or es i no_entry) W 0 row 1 m) ≡ length m
+    unfolding row_on
+    same-next z =
+        let em : m ≡ row_on s W paper (firsts i es) row l = d.sofar ∙ sym (taken _ l z) in
+        rw em (ap length (row_more s W paper es row l i (given z).good.sizes.some) ∙ length-change _ _ l ∙ sym (length-change _ _ l))
+
     pub may-end : number ≡ done → (W * 4 ≤ length m) × (W ≤ limit)
     may-end z = let g = given z in (omega (arith, g.room, d.same), g.good.sizes.wide)
 
@@ -119,3 +136,22 @@ module _ (s : List ℕ) (W H : ℕ) (paper : RGBA) (es : List Entry) (row : ℕ)
         by false t em ei =
             let n = eqb-false number done t in
             (answer p.0 ei ∙ row-refused s W H paper (length es) es row l d.decided n, p.2 ∙ em ∙ row_kept s W H paper (length es) es row l d.decided n)
+
+  -- the row after i turns: paper, and each entry on what the one before left
+  pub turned : ℕ → List ℕ
+  turned zero = change (within 0 (0 + W)) (λ _ _. paper) l
+  turned (suc i) = entry_rows s (get_or es i no_entry) W 0 row 1 (turned i)
+
+  module _ (e : done ≡ row_refusal W H (length s) (length es) es row (length l)) where
+    drawn-turns : (i : ℕ) → i ≤ length es → Drawn done i (turned i)
+    unfolding good_plan turned
+    drawn-turns zero h =
+        let g = judged-all W H (length s) es in
+        drawn-start g (e ∙ ap (λ (b : Bool). refusal_of (good_sizes W H (length es) && b) W H row (length l)) (sym g), begun W paper row l refl) (length-change _ _ l)
+    drawn-turns (suc i) h = let d = drawn-turns i (omega arith) in rw (add-one i) at (drawn-next d (omega arith) refl (same-next d refl))
+
+    pub all-turns : row_on s W paper es row l ≡ turned (length es)
+    all-turns = ap (λ (fs : List Entry). row_on s W paper fs row l) (sym (firsts-all es (length es) refl)) ∙ taken _ l refl ∙ sym (drawn-turns (length es) (le_refl (length es))).sofar
+
+    pub drawn-all : {m : List ℕ} → m ≡ row_on s W paper es row l → Drawn done (length es) m
+    drawn-all em = rw (sym (em ∙ all-turns)) at (drawn-turns (length es) (le_refl (length es)))

@@ -32,6 +32,6 @@ returns c =
     let a = c.args in
     let e = rw c.good_list-good.ensures at c.in_default.ensures in
     let d = c.draw_rows.ensures ∙ band-one _ _ a.paper_color _ _ _ in
-    let t = drawn-all a.«data».now a.width a.height a.paper_color a.entries.now a.row a.line.now e (omega arith) d in
+    let t = drawn-all a.«data».now a.width a.height a.paper_color a.entries.now a.row a.line.now e d in
     let r = drawn-end a.«data».now a.width a.height a.paper_color a.entries.now a.row a.line.now t refl (refl, c.ink_of-ink.ensures, refl) in
     record { value = r.0; line_after = r.1 }

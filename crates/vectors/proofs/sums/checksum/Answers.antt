@@ -1,7 +1,10 @@
+use lib.Seq.{take-length}
 use Rattle.std.proofs.Common.{rules}
 use Rattle.vectors.specs.Sums.{checksum_of}
 use Rattle.vectors.proofs.sums.checksum.Goals as goal
 
+-- The body has no slice. `whole` proves one that leaves nothing out too, so that the edit made_wrong is refused
+-- for what it leaves out, and not for its form.
 pub returns : goal.returns
 unfolding checksum_of
-returns c = search rules
+returns c = let whole = take-length c.args.bytes.now in search rules
