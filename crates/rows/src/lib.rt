@@ -58,16 +58,13 @@ fn firsts(count: usize, entries: &[Entry; 64]) -> &[Entry]
     &entries[..count]
 }
 
-fn good_plan(plan: Plan, n: usize) -> bool
-    ensures { result ≡ good_plan plan.width plan.height n plan.count (used plan) }
+// The plan is lent: by value its 64 entries would be copied once more.
+fn good_plan(plan: &Plan, n: usize) -> bool
+    ensures { result ≡ good_plan plan.now.width plan.now.height n plan.now.count (used plan.now) }
 {
-    let Plan {
-        width,
-        height,
-        count,
-        ..
-    } = plan;
-    good_sizes(width, height, count) && good_entries(width, height, n, firsts(count, &plan.entries))
+    let entries = &plan.entries;
+    good_sizes(plan.width, plan.height, plan.count)
+        && good_entries(plan.width, plan.height, n, firsts(plan.count, entries))
 }
 
 // `good` says whether the plan rules are kept.
@@ -173,7 +170,7 @@ pub fn row(plan: Plan, row: u32, data: &[u8], line: &mut [u8]) -> RowAnswer
     ensures value { result ≡ plan_given «data».now plan row line.old }
     ensures line_after { line.new ≡ plan_written «data».now plan row line.old }
 {
-    let good = good_plan(plan, data.len());
+    let good = good_plan(&plan, data.len());
     if let Err(why) = refusal_of(good, plan.width, plan.height, row, line.len()) {
         return RowAnswer::refused(why);
     }
@@ -188,7 +185,7 @@ pub fn rows(plan: Plan, first: u32, count: u32, data: &[u8], buf: &mut [u8]) -> 
     ensures value { number result ≡ plan_rows_refusal plan first count (length «data».now) (length buf.old) }
     ensures buf_after { buf.new ≡ plan_rows_written «data».now plan first count buf.old }
 {
-    let good = good_plan(plan, data.len());
+    let good = good_plan(&plan, data.len());
     rows_refusal(good, plan.width, plan.height, first, count, buf.len())?;
     let entries = firsts(plan.count, &plan.entries);
     draw_bands(
