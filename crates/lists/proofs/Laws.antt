@@ -1,6 +1,6 @@
 -- A lent list's row, entry by entry: judged one after the other, drawn one after the other, and at the end the
--- row that the contract tells. The loops are those of rows: `judged-all` and `all-turns` say that the verdict and the
--- row of their definitions are what these turns give. Assumes nothing.
+-- row that the contract tells. The loops are those of rows: `judged-all` says that its verdict on the entries is that
+-- of these turns, and `all-turns` that the row it gives is theirs. Assumes nothing.
 use Prim.Native.Nat.{ℕ, zero, suc, ◌+◌, ◌*◌, ◌≤◌, ◌<◌}
 use mathlib.Core.Path.{◌≡◌, refl, ap, sym, ◌∙◌}
 use mathlib.Core.Bool.{Bool, true, false, ◌&&◌}
@@ -150,6 +150,7 @@ module _ (s : List ℕ) (W H : ℕ) (paper : RGBA) (es : List Entry) (row : ℕ)
         drawn-start g (e ∙ ap (λ (b : Bool). refusal_of (good_sizes W H (length es) && b) W H row (length l)) (sym g), begun W paper row l refl) (length-change _ _ l)
     drawn-turns (suc i) h = let d = drawn-turns i (omega arith) in rw (add-one i) at (drawn-next d (omega arith) refl (same-next d refl))
 
+    -- all entries at once give what the turns give
     pub all-turns : row_on s W paper es row l ≡ turned (length es)
     all-turns = ap (λ (fs : List Entry). row_on s W paper fs row l) (sym (firsts-all es (length es) refl)) ∙ taken _ l refl ∙ sym (drawn-turns (length es) (le_refl (length es))).sofar
 
